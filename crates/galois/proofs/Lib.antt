@@ -1,0 +1,5 @@
+pub mod Linear
+pub mod Tests
+pub mod Laws
+pub mod Remainders
+pub mod Steps

@@ -1,0 +1,4 @@
+pub mod Digits
+pub mod Packet
+pub mod Reading
+pub mod Writing

@@ -1,0 +1,4 @@
+pub mod LineForm
+pub mod PlanSizes
+pub mod Runs
+pub mod Turns
