@@ -20,12 +20,12 @@ module _ {X : Type 0} (k : ℕ) (value : X → ℕ) (of : ℕ → X) (numbers : 
   assoc x y z =
       ap of
       (ap (λ n. bitXor n (value z)) (xor-value x y) ∙ xor-assoc (value x) (value y) (value z)
-        ∙ sym (ap (bitXor (value x)) (xor-value y z)))
+      ∙ sym (ap (bitXor (value x)) (xor-value y z)))
 
   zero-plus : (x : X) → xorSums value of .plus (of 0) x ≡ x
   zero-plus x =
       sym (element-is x (bitXor (value (of 0)) (value x))
-        (sym (ap (λ n. bitXor n (value x)) (numbers .held 0 (pow-pos k)) ∙ xor-zero-l (value x))))
+      (sym (ap (λ n. bitXor n (value x)) (numbers .held 0 (pow-pos k)) ∙ xor-zero-l (value x))))
 
   decide : (x y : X) → (x ≡ y) ⊎ (x ≡ y → ⊥)
   decide x y = elim (cases-eq (value x) (value y)) [ inl e ↦ inl (numbers .same x y e) | inr n ↦ inr (λ e. n (ap value e)) ]

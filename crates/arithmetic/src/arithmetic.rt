@@ -10,6 +10,7 @@ use crate::sum::Sum;
 // A whole arithmetic. Nothing above it may use more of its elements than the laws say.
 pub trait Arithmetic {
     type Coef: Field;
+
     type Sym: Sum;
 
     // The bytes of a symbol, 1 or 4.

@@ -23,8 +23,8 @@ past-memory m g a small whole past =
     lt-of-mul-lt-mul-left g h
 
 pub spread-bounded : {F : Type 0} (s : Sums F) (x : Shape) (c : ℕ → ℕ → ℕ → F) (g : ℕ)
-  → ((j a k : ℕ) → a < 2 ^ 32 → Outside x j a k → c j a k ≡ s .zero)
-  → (j a k : ℕ) → a < 2 ^ 32 → Outside (spreadShape x g) j a k → spread s c g j a k ≡ s .zero
+    → ((j a k : ℕ) → a < 2 ^ 32 → Outside x j a k → c j a k ≡ s .zero)
+    → (j a k : ℕ) → a < 2 ^ 32 → Outside (spreadShape x g) j a k → spread s c g j a k ≡ s .zero
 spread-bounded s x c g inner j a k small out =
     cond-both (eqb (a % g) 0) (c j (a / g) k) (s .zero) (λ v. v ≡ s .zero) (λ t. inner j (a / g) k (omega (arith, div-le-self a g)) (inside t out)) (λ _. refl)
   where
@@ -34,7 +34,7 @@ spread-bounded s x c g inner j a k small out =
     inside t (inr (inr p)) = inr (inr (past-memory (x .memory) g a small (eqb-true (a % g) 0 t) p))
 
 pub back-bounded : {F : Type 0} (s : Sums F) (p : Products F) (m g j a k : ℕ)
-  → a < 2 ^ 32 → Outside (backShape m g) j a k → backDiagonal s p m g j a k ≡ s .zero
+    → a < 2 ^ 32 → Outside (backShape m g) j a k → backDiagonal s p m g j a k ≡ s .zero
 back-bounded s p m g j a k small out =
     let test = eqb j 0 && (ltb k m && eqb a (g * (k + 1))) in
     cond-both test (p .one) (s .zero) (λ v. v ≡ s .zero) (λ t. absurd (inside t out)) (λ _. refl)
@@ -50,11 +50,11 @@ back-bounded s p m g j a k small out =
         elim out [ inl q ↦ omega arith | inr r ↦ elim r [ inl q ↦ omega arith | inr q ↦ omega arith ] ]
 
 pub main-bounded : {F : Type 0} (s : Sums F) (p : Products F) (m j a k : ℕ)
-  → a < 2 ^ 32 → Outside (mainShape m) j a k → mainDiagonal s p m j a k ≡ s .zero
+    → a < 2 ^ 32 → Outside (mainShape m) j a k → mainDiagonal s p m j a k ≡ s .zero
 main-bounded s p m j a k small out = search needs
 
 pub overlay-bounded : {F : Type 0} (s : Sums F) (laws : SumLaws s) (x y : Shape) (c d : ℕ → ℕ → ℕ → F) (n : ℕ)
-  → ((j a k : ℕ) → a < 2 ^ 32 → Outside x j a k → c j a k ≡ s .zero)
-  → ((j a k : ℕ) → a < 2 ^ 32 → Outside y j a k → d j a k ≡ s .zero)
-  → (j a k : ℕ) → a < 2 ^ 32 → Outside (overlayShape x y n) j a k → overlay s c d n j a k ≡ s .zero
+    → ((j a k : ℕ) → a < 2 ^ 32 → Outside x j a k → c j a k ≡ s .zero)
+    → ((j a k : ℕ) → a < 2 ^ 32 → Outside y j a k → d j a k ≡ s .zero)
+    → (j a k : ℕ) → a < 2 ^ 32 → Outside (overlayShape x y n) j a k → overlay s c d n j a k ≡ s .zero
 overlay-bounded s laws x y c d n first second j a k small out = search needs

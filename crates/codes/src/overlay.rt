@@ -25,7 +25,9 @@ pub impl<F: Field, X: Code<F>, Y: Code<F>> Code<F> for Overlay<X, Y> as OverlayC
     }
 
     fn memory(&self) -> u32 {
-        self.first.memory().max(self.second.memory().saturating_add(self.delay))
+        self.first
+            .memory()
+            .max(self.second.memory().saturating_add(self.delay))
     }
 
     fn coefficient(&self, parity: u32, age: u32, sub: u32) -> F {

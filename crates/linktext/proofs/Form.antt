@@ -57,7 +57,7 @@ pub fourth-wrong : (cs : List ℕ) → isNumber (front (back (back (back cs)))) 
 fourth-wrong cs h = and-right (isNumber (front cs)) _ (third-wrong′ (back cs) h)
   where
     third-wrong′ : (ds : List ℕ) → isNumber (front (back (back ds))) ≡ false
-      → (isNumber (front ds) && (isNumber (front (back ds)) && (isNumber (front (back (back ds))) && isLetter (back (back (back ds)))))) ≡ false
+        → (isNumber (front ds) && (isNumber (front (back ds)) && (isNumber (front (back (back ds))) && isLetter (back (back (back ds)))))) ≡ false
     third-wrong′ ds k = and-right (isNumber (front ds)) _ (and-second (isNumber (front (back ds))) (isNumber (front (back (back ds)))) _ k)
 
 pub letter-wrong : (cs : List ℕ) → isLetter (back (back (back (back cs)))) ≡ false → planForm cs ≡ false
@@ -70,7 +70,7 @@ letter-wrong cs h =
     and-right a (b && (c && (d && e))) (and-right b (c && (d && e)) (and-right c (d && e) (and-right d e h)))
 
 pub all-right : (cs : List ℕ) → isNumber (front cs) ≡ true → isNumber (front (back cs)) ≡ true → isNumber (front (back (back cs))) ≡ true
-  → isNumber (front (back (back (back cs)))) ≡ true → isLetter (back (back (back (back cs)))) ≡ true → planForm cs ≡ true
+    → isNumber (front (back (back (back cs)))) ≡ true → isLetter (back (back (back (back cs)))) ≡ true → planForm cs ≡ true
 all-right cs a b c d e = rw (a, b, c, d) e
 
 -- a line that breaks its form
@@ -83,7 +83,7 @@ broken cs h =
 
 -- a line that keeps it
 pub kept : (cs : List ℕ) → length cs ≤ longest → planForm cs ≡ true
-  → planLineRefusal cs ≡ planRefusal (readOn 0 (front cs)) (readOn 0 (front (back cs))) (readOn 0 (front (back (back cs)))) (readOn 0 (front (back (back (back cs)))))
+    → planLineRefusal cs ≡ planRefusal (readOn 0 (front cs)) (readOn 0 (front (back cs))) (readOn 0 (front (back (back cs)))) (readOn 0 (front (back (back (back cs)))))
 kept cs short h =
     let b = front cs in
     let r = back cs in

@@ -43,7 +43,7 @@ pub read-none : (cs : List ℕ) → ReadTo cs 0 0
 read-none cs = record { digits = refl; value = refl }
 
 pub read-more : (cs : List ℕ) (i n m : ℕ) → i < length cs → isDecimal (getD cs i 0) ≡ true
-  → m ≡ min (n * 10 + (getD cs i 0 - 48)) 4294967295 → ReadTo cs i n → ReadTo cs (i + 1) m
+    → m ≡ min (n * 10 + (getD cs i 0 - 48)) 4294967295 → ReadTo cs i n → ReadTo cs (i + 1) m
 read-more cs i n m within good is p =
     let here = drop-more cs i 0 within in
     let c = getD cs i 0 in

@@ -33,7 +33,10 @@ pub fn plan_text(heap: Global, plan: &Plan) -> Result<String, AllocError>
     let stretch = plan.stretch();
     let symbols = plan.symbols();
     let name = name_text(plan.arithmetic());
-    format!(heap, "plan B={burst} m={width} alpha={stretch} L={symbols} {name} arithmetic")
+    format!(
+        heap,
+        "plan B={burst} m={width} alpha={stretch} L={symbols} {name} arithmetic"
+    )
 }
 
 // What follows from a plan: its deadlines, and the shape of its code over these coefficients.
@@ -46,7 +49,10 @@ pub fn shape_text<F: Field>(heap: Global, plan: &Plan) -> Result<String, AllocEr
     let sources = Code::<F>::sources(&code);
     let parities = Code::<F>::parities(&code);
     let memory = Code::<F>::memory(&code);
-    format!(heap, "T={short} D={long} K={sources} P={parities} M={memory}")
+    format!(
+        heap,
+        "T={short} D={long} K={sources} P={parities} M={memory}"
+    )
 }
 
 // What is wrong with a line, and what would be right.
@@ -61,9 +67,12 @@ fn advice_on(refusal: Refusal, line: u64) -> &'static str
                 "the last slot of a link is 268435455: start another link"
             }
         }
-        Refusal::UnfitShape => "a packet has 1 to 8 sub-symbols, and a block 1 to 4 parities: choose another plan",
-        Refusal::ShortMemory => "the history is too short: it holds as many packets as the code's memory says",
-        Refusal::OtherLength => "the packet has another length than the plan's: m times L symbols, of 8 digits each for W and 2 for F",
+        Refusal::UnfitShape =>
+            "a packet has 1 to 8 sub-symbols, and a block 1 to 4 parities: choose another plan",
+        Refusal::ShortMemory =>
+            "the history is too short: it holds as many packets as the code's memory says",
+        Refusal::OtherLength =>
+            "the packet has another length than the plan's: m times L symbols, of 8 digits each for W and 2 for F",
         Refusal::ShortOutput => "the output is too short: it takes a whole block",
         Refusal::BrokenLine => {
             if line == 1 {
@@ -87,7 +96,12 @@ pub fn refusal_text(heap: Global, refusal: Refusal, line: u64) -> Result<String,
 }
 
 // A slot with its packet and its parities.
-pub fn slot_text<A: Arithmetic>(heap: Global, slot: u32, packet: &[A::Sym], parities: &[A::Sym]) -> Result<String, AllocError>
+pub fn slot_text<A: Arithmetic>(
+    heap: Global,
+    slot: u32,
+    packet: &[A::Sym],
+    parities: &[A::Sym],
+) -> Result<String, AllocError>
     ensures { λ r. ⌜ made r (λ s. string-bytes s ≡ slotText (A·Arithmetic .bytes) slot (now (packet .entry)) (now (parities .entry))) ⌝ }
 {
     let mut text = format!(heap, "slot {slot} packet ")?;

@@ -20,7 +20,7 @@ code-shape b m α (OneDeadline c) (one, w, s) = rw (w, s) (sym (cond-true _ _ _ 
 code-shape b m α (TwoDeadlines c) (two, w, v, g, d, s) = rw (w, v, g, d, s) (sym (cond-false _ _ _ (ne-eqb α 1 (λ e. omega arith))))
 
 pub code-coefficients : {F : Type 0} (x : Sums F) (p : Products F) (b m α : ℕ) (c : PlanCode) → CodeOf b m α c
-  → coefficientsOf x p c ≡ planCoefficients x p b m α
+    → coefficientsOf x p c ≡ planCoefficients x p b m α
 code-coefficients x p b m α (OneDeadline c) (one, w, s) = rw (w, s) (sym (cond-true _ _ _ (eq-eqb α 1 one)))
 code-coefficients x p b m α (TwoDeadlines c) (two, w, v, g, d, s) = rw (w, v, g, d, s) (sym (cond-false _ _ _ (ne-eqb α 1 (λ e. omega arith))))
 
@@ -30,24 +30,24 @@ one-memory b m hb hm = omega (arith, mul-le b m 63 8 hb hm, mul-comm b m)
 
 -- two deadlines, with n for α - 1: the back diagonal, delayed, is the older one
 two-memory : (b m n : ℕ) → b ≤ 63 → m ≤ 8 → n ≤ 7
-  → capped (b * max m (capped (capped (n * m) + (m + 1)))) ≡ (n + 1) * (m * b) + b
+    → capped (b * max m (capped (capped (n * m) + (m + 1)))) ≡ (n + 1) * (m * b) + b
 two-memory b m n hb hm hn =
     let small : n * m ≤ 56 = mul-le n m 7 8 hn hm in
     let inner : max m (capped (capped (n * m) + (m + 1))) ≡ (n + 1) * m + 1 = omega (arith, add-mul n 1 m, one-mul m) in
     let whole : b * ((n + 1) * m + 1) ≡ (n + 1) * (m * b) + b =
-      mul-add b ((n + 1) * m) 1 ∙ rw (mul-one, mul-comm b ((n + 1) * m), mul-assoc (n + 1) m b) refl in
+    mul-add b ((n + 1) * m) 1 ∙ rw (mul-one, mul-comm b ((n + 1) * m), mul-assoc (n + 1) m b) refl in
     let least : b * ((n + 1) * m + 1) ≤ 63 * 65 = mul-le b ((n + 1) * m + 1) 63 65 hb (omega (arith, add-mul n 1 m, one-mul m)) in
     rw inner (omega (arith, whole, least))
 
 pub plan-memory : (b m α : ℕ) → b ≤ 63 → m ≤ 8 → 1 ≤ α → α ≤ 8 → planShape b m α .memory ≡ deadlineOf b m α
 plan-memory b m α hb hm low high =
     elim (cases-eq α 1) [
-      inl e ↦
-        let t = eq-eqb α 1 e in
-        ap (λ (x : Shape). x .memory) (cond-true (eqb α 1) _ _ t) ∙ one-memory b m hb hm ∙ sym (cond-true (eqb α 1) _ _ t)
-    | inr n ↦
-        let f = ne-eqb α 1 n in
-        let up : α - 1 + 1 ≡ α = omega arith in
-        let two = two-memory b m (α - 1) hb hm (omega arith) in
-        ap (λ (x : Shape). x .memory) (cond-false (eqb α 1) _ _ f) ∙ rw up at two ∙ sym (cond-false (eqb α 1) _ _ f)
+      | inl e ↦
+          let t = eq-eqb α 1 e in
+          ap (λ (x : Shape). x .memory) (cond-true (eqb α 1) _ _ t) ∙ one-memory b m hb hm ∙ sym (cond-true (eqb α 1) _ _ t)
+      | inr n ↦
+          let f = ne-eqb α 1 n in
+          let up : α - 1 + 1 ≡ α = omega arith in
+          let two = two-memory b m (α - 1) hb hm (omega arith) in
+          ap (λ (x : Shape). x .memory) (cond-false (eqb α 1) _ _ f) ∙ rw up at two ∙ sym (cond-false (eqb α 1) _ _ f)
     ]

@@ -41,7 +41,13 @@ pub struct Plan {
 
 impl Plan {
     // Refuses a number outside its limits: B 1 to 63, m 1 to 8, α 1 to 8, L 1 to 32.
-    pub fn new(burst: u32, width: u32, stretch: u32, symbols: u32, arithmetic: ArithmeticName) -> Result<Plan, Refusal>
+    pub fn new(
+        burst: u32,
+        width: u32,
+        stretch: u32,
+        symbols: u32,
+        arithmetic: ArithmeticName,
+    ) -> Result<Plan, Refusal>
         ensures refusal { λ r. ⌜ errPart r ≡ planRefusal burst width stretch symbols ⌝ }
         ensures made { λ r. ⌜ made r (λ p. (p .burst ≡ burst) × (p .width ≡ width) × (p .stretch ≡ stretch) × (p .symbols ≡ symbols) × (p .arithmetic ≡ arithmetic)) ⌝ }
     {

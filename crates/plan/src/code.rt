@@ -4,12 +4,12 @@ ghost use Rattle.codes.specs.Shape.{Outside};
 ghost use Rattle.plan.specs.Codes.{shapeOf, coefficientsOf, CodeOf, planCoefficients};
 use arithmetic::field::Field;
 use codes::code::Code;
+use codes::diagonal::BackCode;
 use codes::diagonal::BackDiagonal;
+use codes::diagonal::MainCode;
 use codes::diagonal::MainDiagonal;
 use codes::overlay::Overlay;
 use codes::overlay::OverlayCode;
-use codes::diagonal::BackCode;
-use codes::diagonal::MainCode;
 use codes::spread::Spread;
 use codes::spread::SpreadCode;
 

@@ -7,5 +7,5 @@ use Rattle.sender.specs.Parity.{sumBelow}
 
 -- a loop's turn: r is what was added up before, plus the next term
 pub sum-more : {S : Type 0} (s : Sums S) (n : ℕ) (f : ℕ → S) (before next r : S)
-  → before ≡ sumBelow s n f → next ≡ f n → r ≡ s .plus before next → r ≡ sumBelow s (n + 1) f
+    → before ≡ sumBelow s n f → next ≡ f n → r ≡ s .plus before next → r ≡ sumBelow s (n + 1) f
 sum-more s n f before next r b e h = rw add-one (cc)

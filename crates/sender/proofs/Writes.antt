@@ -13,8 +13,8 @@ use Rattle.std.proofs.shelf.Lists.{take-at, drop-at, drop-append-le, drop-more,
 
 -- rotated by a packet, then with the packet over the end
 pub advanced : {X : Type 0} (xs p r q : List X) (n : ℕ) → n ≤ length xs → length p ≤ n
-  → r ≡ drop (length p) (take n xs) ++ take (length p) (take n xs) → q ≡ p
-  → putMid (n - length p) (n - (n - length p)) (r ++ drop n xs) q ≡ drop (length p) (take n xs ++ p) ++ drop n xs
+    → r ≡ drop (length p) (take n xs) ++ take (length p) (take n xs) → q ≡ p
+    → putMid (n - length p) (n - (n - length p)) (r ++ drop n xs) q ≡ drop (length p) (take n xs ++ p) ++ drop n xs
 advanced {X} xs p r q n within short turned new =
     let s = length p in
     let a = take n xs in
@@ -33,7 +33,7 @@ advanced {X} xs p r q n within short turned new =
 
 -- one more written behind xs
 pub over-more : {X : Type 0} (xs old : List X) (i : ℕ) (v : X) → length xs ≡ i → i < length old
-  → set (xs ++ drop i old) i v ≡ (xs ++ v ∷ []) ++ drop (i + 1) old
+    → set (xs ++ drop i old) i v ≡ (xs ++ v ∷ []) ++ drop (i + 1) old
 over-more {X} xs old i v long within =
     ap (λ (l : List X). set (xs ++ l) i v) (drop-more old i v within)
     ∙ set-at xs (getD old i v) (drop (i + 1) old) v i long ∙ sym (append-assoc xs (v ∷ []) (drop (i + 1) old))
@@ -43,22 +43,22 @@ pub fill-none : {X : Type 0} (f : ℕ → X) (old : List X) (s : ℕ) → old �
 fill-none f old s = rw (append-nil, add-zero) (sym (take-append-drop s old))
 
 pub fill-more : {X : Type 0} (f : ℕ → X) (out old : List X) (s n : ℕ) (v : X) → s + n < length old → v ≡ f n
-  → out ≡ (take s old ++ map f (counting 0 n)) ++ drop (s + n) old
-  → set out (s + n) v ≡ (take s old ++ map f (counting 0 (n + 1))) ++ drop (s + (n + 1)) old
+    → out ≡ (take s old ++ map f (counting 0 n)) ++ drop (s + n) old
+    → set out (s + n) v ≡ (take s old ++ map f (counting 0 (n + 1))) ++ drop (s + (n + 1)) old
 fill-more {X} f out old s n v within is before =
     let xs = take s old ++ map f (counting 0 n) in
     let long : length xs ≡ s + n =
-      length-append (take s old) (map f (counting 0 n)) ∙ rw (length-map-counting f 0 n) (ap (λ m. m + n) (length-take-le s old (omega arith))) in
+    length-append (take s old) (map f (counting 0 n)) ∙ rw (length-map-counting f 0 n) (ap (λ m. m + n) (length-take-le s old (omega arith))) in
     let more : xs ++ v ∷ [] ≡ take s old ++ map f (counting 0 (n + 1)) =
-      append-assoc (take s old) (map f (counting 0 n)) (v ∷ [])
-      ∙ ap (λ (l : List X). take s old ++ l) (ap (λ (w : X). map f (counting 0 n) ++ w ∷ []) is ∙ sym (map-counting-more f 0 n n (omega arith))) in
+    append-assoc (take s old) (map f (counting 0 n)) (v ∷ [])
+    ∙ ap (λ (l : List X). take s old ++ l) (ap (λ (w : X). map f (counting 0 n) ++ w ∷ []) is ∙ sym (map-counting-more f 0 n n (omega arith))) in
     ap (λ (l : List X). set l (s + n) v) before ∙ over-more xs old (s + n) v long within
     ∙ rw (more, add-assoc s n 1) refl
 
 -- the packet first, then what comes behind it
 pub written : {X : Type 0} (p ps old out : List X) (m : ℕ) → length p ≤ length old → length ps ≡ m
-  → out ≡ (take (length p) (p ++ drop (length p) old) ++ ps) ++ drop (length p + m) (p ++ drop (length p) old)
-  → out ≡ (p ++ ps) ++ drop (length (p ++ ps)) old
+    → out ≡ (take (length p) (p ++ drop (length p) old) ++ ps) ++ drop (length p + m) (p ++ drop (length p) old)
+    → out ≡ (p ++ ps) ++ drop (length (p ++ ps)) old
 written {X} p ps old out m within long is =
     let front = take-at p (drop (length p) old) (length p) refl in
     let back = drop-append-drop (length p) old p (length p + m) (omega arith) refl in

@@ -1,4 +1,4 @@
--- What a sender refuses, in the order in which it looks. Assumes nothing.
+-- What a sender refuses; the first check that fails decides. Assumes nothing.
 use Prim.Native.Nat.{ℕ}
 use mathlib.Core.Bool.{Bool, not, _||_}
 use lib.Dec.{eqb, ltb}

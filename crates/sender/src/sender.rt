@@ -54,7 +54,13 @@ impl<A: Arithmetic, C: Code<A::Coef> + Drop> Sender<A, C> {
 
     // Sends the packet of this slot, which must be the next one: the block goes to the output, and the history,
     // which holds the last packets, oldest first, takes the new one in.
-    pub fn send(&mut self, slot: u32, packet: &[A::Sym], history: &mut [A::Sym], out: &mut [A::Sym]) -> Result<(), Refusal>
+    pub fn send(
+        &mut self,
+        slot: u32,
+        packet: &[A::Sym],
+        history: &mut [A::Sym],
+        out: &mut [A::Sym],
+    ) -> Result<(), Refusal>
         ensures refusal { λ r. ⌜ errPart r ≡ sendRefusal (C·Code .shape (now (self .entry) .code)) (now (self .entry) .symbols) (now (self .entry) .next) slot (length (now (history .entry))) (length (now (packet .entry))) (length (now (out .entry))) ⌝ }
         ensures kept { λ r. ⌜ ifRefused r (λ _. (now (self .exit) ≡ now (self .entry)) × (now (history .exit) ≡ now (history .entry)) × (now (out .exit) ≡ now (out .entry))) ⌝ }
         ensures code { λ r. ⌜ made r (λ _. (now (self .exit) .code ≡ now (self .entry) .code) × (now (self .exit) .symbols ≡ now (self .entry) .symbols) × (now (self .exit) .next ≡ now (self .entry) .next + 1)) ⌝ }

@@ -1,10 +1,10 @@
 ghost use Rattle.std.specs.Of.Vec.{vec-items};
 ghost use Rattle.table.specs.Table.{tableCoefficients};
 use crate::coefficients::CoefficientTable;
+use arithmetic::sum::Sum;
 use byte::Byte;
 use byte::ByteField;
 use byte::ByteSum;
-use arithmetic::sum::Sum;
 use codes::code::Code;
 
 pub impl Code<Byte> for CoefficientTable as TableCode {

@@ -21,7 +21,12 @@ pub struct CoefficientTable {
 
 impl CoefficientTable {
     // The byte at (j * (M + 1) + a) * K + k is what parity j scales sub-symbol k of the packet a slots ago by.
-    pub fn new(sources: u32, parities: u32, memory: u32, bytes: Vec<u8>) -> Result<CoefficientTable, Refusal>
+    pub fn new(
+        sources: u32,
+        parities: u32,
+        memory: u32,
+        bytes: Vec<u8>,
+    ) -> Result<CoefficientTable, Refusal>
         ensures refusal { λ r. ⌜ errPart r ≡ tableRefusal (record { sources = sources; parities = parities; memory = memory }) (vec-len bytes) ⌝ }
         ensures made { λ r. ⌜ made r (λ t. (t .sources ≡ sources) × (t .parities ≡ parities) × (t .memory ≡ memory) × (vec-items (t .bytes) ≡ vec-items bytes)) ⌝ }
     {

@@ -45,7 +45,7 @@ hex-of false d e = let z : _≡_ {A = ℕ} 0 1 = cc in absurd (omega arith)
 
 -- a line that is a packet's text, for a slot that there is: its length decides
 module _ {S : Type 0} (b : Bytes S) (laws : ByteLaws b) (size slot : ℕ) (line : List ℕ) (xs : List S)
-  (short : length line ≤ longest) (there : slot ≤ lastSlot) (read : packetRefusal b line ≡ None) (text : packetText b xs ≡ line) where
+    (short : length line ≤ longest) (there : slot ≤ lastSlot) (read : packetRefusal b line ≡ None) (text : packetText b xs ≡ line) where
   long : length line ≡ 2 * b .width * length xs
   long = ap length (sym text) ∙ length-packet b laws xs
 
@@ -53,7 +53,7 @@ module _ {S : Type 0} (b : Bytes S) (laws : ByteLaws b) (size slot : ℕ) (line 
   start =
       let hex = hex-of (isHex line) (eqb (length line / 2 % b .width) 0) read in
       let form : (ltb longest (length line) || not (isHex line)) ≡ false =
-        or-from (ltb longest (length line)) (not (isHex line)) (le-ltb longest (length line) short) (not-from-true (isHex line) hex) in
+      or-from (ltb longest (length line)) (not (isHex line)) (le-ltb longest (length line) short) (not-from-true (isHex line) hex) in
       let later = refused (not (eqb (length line) (2 * b .width * size))) OtherLength accepted in
       ap (λ (t : Bool). refused t BrokenLine (refused (ltb lastSlot slot) OutsideLimits later)) form
       ∙ ap (λ (t : Bool). refused t OutsideLimits later) (le-ltb lastSlot slot there)
@@ -66,12 +66,12 @@ module _ {S : Type 0} (b : Bytes S) (laws : ByteLaws b) (size slot : ℕ) (line 
   pub line-whole : length xs ≡ size → lineRefusal (b .width) size slot line ≡ None
   line-whole same =
       start ∙ ap (λ (t : Bool). refused (not t) OtherLength accepted)
-        (eq-eqb (length line) (2 * b .width * size) (long ∙ ap (λ n. 2 * b .width * n) same))
+      (eq-eqb (length line) (2 * b .width * size) (long ∙ ap (λ n. 2 * b .width * n) same))
 
 -- what a block has behind its packet, where the output holds just the block
 pub behind-packet : {S : Type 0} (packet parities old out : List S) (n : ℕ) → out ≡ (packet ++ parities) ++ drop (length (packet ++ parities)) old
-  → length old ≡ length (packet ++ parities) → n ≡ length (packet ++ parities)
-  → take (n - length packet) (drop (length packet) out) ≡ parities
+    → length old ≡ length (packet ++ parities) → n ≡ length (packet ++ parities)
+    → take (n - length packet) (drop (length packet) out) ≡ parities
 behind-packet {S} packet parities old out n is room end =
     let none = drop-all (length (packet ++ parities)) old (omega arith) in
     let whole : out ≡ packet ++ parities = is ∙ ap (λ (l : List S). (packet ++ parities) ++ l) none ∙ append-nil (packet ++ parities) in

@@ -44,13 +44,13 @@ LineReads b size slot line (Err NoMemory) = Unit {0}
 pub data Sent {F S : Type 0} (o : Operations F S) (b : Bytes S) (x : Shape) (c : ℕ → ℕ → ℕ → F) (l : ℕ) : List S → ℕ → List (List ℕ) → List ℕ → Type 0 where
   ended : {history : List S} {slot : ℕ} → Sent o b x c l history slot [] []
   stopped : {history : List S} {slot : ℕ} {line : List ℕ} {lines : List (List ℕ)} (why : Refusal)
-    → lineRefusal (b .width) (packetSize x l) slot line ≡ Some why
-    → Sent o b x c l history slot (line ∷ lines) (refusalText why (slot + 2) ++ (10 ∷ []))
+      → lineRefusal (b .width) (packetSize x l) slot line ≡ Some why
+      → Sent o b x c l history slot (line ∷ lines) (refusalText why (slot + 2) ++ (10 ∷ []))
   sent : {history : List S} {slot : ℕ} {line : List ℕ} {lines : List (List ℕ)} {out : List ℕ} (packet : List S)
-    → lineRefusal (b .width) (packetSize x l) slot line ≡ None
-    → packetText b packet ≡ line
-    → Sent o b x c l (historyAfter x l history packet) (slot + 1) lines out
-    → Sent o b x c l history slot (line ∷ lines) (slotText b slot packet (paritiesOf o x c l history packet) ++ (10 ∷ out))
+      → lineRefusal (b .width) (packetSize x l) slot line ≡ None
+      → packetText b packet ≡ line
+      → Sent o b x c l (historyAfter x l history packet) (slot + 1) lines out
+      → Sent o b x c l history slot (line ∷ lines) (slotText b slot packet (paritiesOf o x c l history packet) ++ (10 ∷ out))
 
 -- all that a send asks for is there
 pub record Ready (x : Shape) (l next history packet block : ℕ) : Type 0 where

@@ -39,10 +39,10 @@ heading b m α l name =
 pub data Transcript : List (List ℕ) → List ℕ → Type 0 where
   nothing : Transcript [] (refusalText BrokenLine 1 ++ (10 ∷ []))
   unplanned : {first : List ℕ} {lines : List (List ℕ)} (why : Refusal)
-    → planLineRefusal first ≡ Some why
-    → Transcript (first ∷ lines) (refusalText why 1 ++ (10 ∷ []))
+      → planLineRefusal first ≡ Some why
+      → Transcript (first ∷ lines) (refusalText why 1 ++ (10 ∷ []))
   planned : {first : List ℕ} {lines : List (List ℕ)} (out : List ℕ) (b m α l : ℕ) (name : ArithmeticName)
-    → planLineRefusal first ≡ None
-    → Says first b m α l name
-    → SentIn name b m α l lines out
-    → Transcript (first ∷ lines) (heading b m α l name ++ out)
+      → planLineRefusal first ≡ None
+      → Says first b m α l name
+      → SentIn name b m α l lines out
+      → Transcript (first ∷ lines) (heading b m α l name ++ out)

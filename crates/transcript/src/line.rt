@@ -19,7 +19,14 @@ use sender::sender::Sender;
 use std::alloc::Global;
 
 // Takes in one line: the packet of the next slot is read, sent and shown.
-pub(crate) fn answer_line<A: Arithmetic>(heap: Global, sender: &mut Sender<A, PlanCode>, history: &mut [A::Sym], block: &mut [A::Sym], size: usize, line: &[u8]) -> Result<String, ReadError>
+pub(crate) fn answer_line<A: Arithmetic>(
+    heap: Global,
+    sender: &mut Sender<A, PlanCode>,
+    history: &mut [A::Sym],
+    block: &mut [A::Sym],
+    size: usize,
+    line: &[u8],
+) -> Result<String, ReadError>
     requires fit { ⌜ unfit (shapeOf (now sender .code)) ≡ false ⌝ }
     requires reaches { ⌜ length (now history) ≡ historySize (shapeOf (now sender .code)) (now sender .symbols) ⌝ }
     requires room { ⌜ length (now block) ≡ blockSize (shapeOf (now sender .code)) (now sender .symbols) ⌝ }

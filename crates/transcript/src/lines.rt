@@ -22,7 +22,12 @@ use std::alloc::AllocError;
 use std::alloc::Global;
 
 // The line that ends a run, behind what was shown before it.
-fn end_run(heap: Global, mut out: String, error: ReadError, number: u64) -> Result<String, AllocError>
+fn end_run(
+    heap: Global,
+    mut out: String,
+    error: ReadError,
+    number: u64,
+) -> Result<String, AllocError>
     ensures { λ r. ⌜ made r (λ s. Ends error number (string-bytes out) (string-bytes s)) ⌝ }
 {
     match error {
@@ -36,7 +41,14 @@ fn end_run(heap: Global, mut out: String, error: ReadError, number: u64) -> Resu
 }
 
 // Takes in the lines of a text, from the next slot on, until one is refused.
-pub(crate) fn answer_lines<A: Arithmetic>(heap: Global, sender: &mut Sender<A, PlanCode>, history: &mut [A::Sym], block: &mut [A::Sym], size: usize, text: &[u8]) -> Result<String, AllocError>
+pub(crate) fn answer_lines<A: Arithmetic>(
+    heap: Global,
+    sender: &mut Sender<A, PlanCode>,
+    history: &mut [A::Sym],
+    block: &mut [A::Sym],
+    size: usize,
+    text: &[u8],
+) -> Result<String, AllocError>
     requires fit { ⌜ unfit (shapeOf (now sender .code)) ≡ false ⌝ }
     requires reaches { ⌜ length (now history) ≡ historySize (shapeOf (now sender .code)) (now sender .symbols) ⌝ }
     requires room { ⌜ length (now block) ≡ blockSize (shapeOf (now sender .code)) (now sender .symbols) ⌝ }

@@ -13,7 +13,11 @@ use std::alloc::AllocError;
 use std::alloc::Global;
 
 // Sends the packets of a plan's link, a line each, from slot 0 on a history of zeros.
-pub(crate) fn send_packets<A: Arithmetic>(heap: Global, plan: &Plan, text: &[u8]) -> Result<String, AllocError>
+pub(crate) fn send_packets<A: Arithmetic>(
+    heap: Global,
+    plan: &Plan,
+    text: &[u8],
+) -> Result<String, AllocError>
     ensures { λ r. ⌜ made r (λ s. SentBy (A·Arithmetic .operations) (A·Arithmetic .bytes) (now (plan .entry) .burst) (now (plan .entry) .width) (now (plan .entry) .stretch) (now (plan .entry) .symbols) (linesOf (now (text .entry))) (string-bytes s)) ⌝ }
 {
     let symbols = plan.symbols();
@@ -24,5 +28,12 @@ pub(crate) fn send_packets<A: Arithmetic>(heap: Global, plan: &Plan, text: &[u8]
     let Ok(mut sender) = Sender::<A, PlanCode>::new(plan.code(), symbols) else {
         unreachable()
     };
-    answer_lines::<A>(heap, &mut sender, history.as_mut_slice(), block.as_mut_slice(), size, text)
+    answer_lines::<A>(
+        heap,
+        &mut sender,
+        history.as_mut_slice(),
+        block.as_mut_slice(),
+        size,
+        text,
+    )
 }

@@ -8,7 +8,12 @@ use sender::sender::LAST_SLOT;
 use std::alloc::Global;
 
 // The packet that a line hands in for this slot, of so many symbols.
-pub(crate) fn read_line<A: Arithmetic>(heap: Global, line: &[u8], slot: u32, size: usize) -> Result<Vec<A::Sym>, ReadError>
+pub(crate) fn read_line<A: Arithmetic>(
+    heap: Global,
+    line: &[u8],
+    slot: u32,
+    size: usize,
+) -> Result<Vec<A::Sym>, ReadError>
     ensures { λ r. ⌜ LineReads (A·Arithmetic .bytes) size slot (now (line .entry)) r ⌝ }
 {
     if line.len() > LONGEST_LINE {

@@ -16,7 +16,13 @@ use std::alloc::AllocError;
 use std::alloc::Global;
 
 // Sends the packet of the next slot, and shows the slot with its packet and parities.
-pub(crate) fn send_slot<A: Arithmetic>(heap: Global, sender: &mut Sender<A, PlanCode>, history: &mut [A::Sym], block: &mut [A::Sym], packet: &[A::Sym]) -> Result<String, AllocError>
+pub(crate) fn send_slot<A: Arithmetic>(
+    heap: Global,
+    sender: &mut Sender<A, PlanCode>,
+    history: &mut [A::Sym],
+    block: &mut [A::Sym],
+    packet: &[A::Sym],
+) -> Result<String, AllocError>
     requires { ⌜ Ready (shapeOf (now sender .code)) (now sender .symbols) (now sender .next) (length (now history)) (length (now packet)) (length (now block)) ⌝ }
     ensures shown { λ r. ⌜ made r (λ s. string-bytes s ≡ slotText (A·Arithmetic .bytes) (now (sender .entry) .next) (now (packet .entry)) (paritiesOf (A·Arithmetic .operations) (shapeOf (now (sender .entry) .code)) (coefficientsOf (Coef·Sum .sum) (Coef·Field .product) (now (sender .entry) .code)) (now (sender .entry) .symbols) (now (history .entry)) (now (packet .entry)))) ⌝ }
     ensures history { λ _. ⌜ now (history .exit) ≡ historyAfter (shapeOf (now (sender .entry) .code)) (now (sender .entry) .symbols) (now (history .entry)) (now (packet .entry)) ⌝ }

@@ -66,7 +66,10 @@ fn packets_refused(rt: LibcRuntime) -> Result<(), Fail> {
         ("1 2 1 1 F\n010203\n", "refused 4 line 2: "),
         ("1 1 1 1 W\n010203\n", "refused 4 line 2: "),
         ("1 1 1 1 W\n0102030405060708\n", "refused 4 line 2: "),
-        ("1 1 1 1 W\n01020304\n05060708", "slot 1 packet 05060708 parities 01020304"),
+        (
+            "1 1 1 1 W\n01020304\n05060708",
+            "slot 1 packet 05060708 parities 01020304",
+        ),
     ];
     for (text, start) in cases {
         last_line(rt.alloc(), text, start)?;

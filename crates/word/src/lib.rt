@@ -3,6 +3,7 @@ pub mod bit;
 pub mod element;
 pub mod sums;
 pub mod whole;
+
 pub use bit::Bit;
 pub use bit::BitField;
 pub use bit::BitSum;

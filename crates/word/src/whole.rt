@@ -11,6 +11,7 @@ pub struct WordArithmetic;
 
 pub impl Arithmetic for WordArithmetic as WordOperations {
     type Coef = Bit;
+
     type Sym = Word;
 
     const WIDTH: usize = 4;

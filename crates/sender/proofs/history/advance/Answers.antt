@@ -19,4 +19,4 @@ returns g c =
     let short : length (c .args .packet .now) ≤ c .args .kept = elim (c .pre .whole) [ inl none ↦ omega arith | inr h ↦ h ] in
     simp sub-zero
     (advanced (c .args .history .now) (c .args .packet .now) (c .rotate-left .last .self) (c .copy-from-slice .last .self) (c .args .kept)
-      (c .pre .within) short (simp sub-zero at (c .rotate-left .ensures .after)) (c .copy-from-slice .ensures .after))
+    (c .pre .within) short (simp sub-zero at (c .rotate-left .ensures .after)) (c .copy-from-slice .ensures .after))

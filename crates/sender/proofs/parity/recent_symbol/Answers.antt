@@ -21,15 +21,18 @@ pub returns-then-age-eq0 : need.returns-then-age-eq0
 returns-then-age-eq0 g c =
     let x = g .C·Code .shape (c .args .code .now) in
     let h : c .args .sub * c .args .symbols + c .args .at < length (c .args .packet .now) =
-      omega (arith, below (x .sources) (c .args .symbols) (c .args .sub) (c .args .at) (c .pre .place .1) (c .pre .place .2)) in
+    omega (arith, below (x .sources) (c .args .symbols) (c .args .sub) (c .args .at) (c .pre .place .1) (c .pre .place .2)) in
     getD-read _ _ _ h (c .index-packet-sub .is) _ ∙ sym (cond-true _ _ _ (eq-eqb (c .args .age) 0 (c .if-age-eq0 .taken)))
 
 pub index-history-back : need.index-history-back
 index-history-back g c =
     let x = g .C·Code .shape (c .args .code .now) in
     rw (c .memory .ensures, c .sources .ensures)
-    (omega (arith, below-history (x .memory) (x .sources) (c .args .symbols) (c .args .age) (c .args .sub) (c .args .at)
-      (omega arith) (c .pre .place .0) (c .pre .place .1) (c .pre .place .2)))
+    (omega (
+      arith,
+      below-history (x .memory) (x .sources) (c .args .symbols) (c .args .age) (c .args .sub) (c .args .at)
+          (omega arith) (c .pre .place .0) (c .pre .place .1) (c .pre .place .2),
+    ))
 
 pub offset-history-back : need.offset-history-back
 offset-history-back g c = let h = index-history-back g c in omega arith
@@ -38,8 +41,8 @@ pub returns : need.returns
 returns g c =
     let x = g .C·Code .shape (c .args .code .now) in
     let place = below-history (x .memory) (x .sources) (c .args .symbols) (c .args .age) (c .args .sub) (c .args .at)
-      (omega arith) (c .pre .place .0) (c .pre .place .1) (c .pre .place .2) in
+    (omega arith) (c .pre .place .0) (c .pre .place .1) (c .pre .place .2) in
     let read = rw (c .memory .ensures, c .sources .ensures) at (c .index-history-back .is) in
     let h : ((x .memory - c .args .age) * x .sources + c .args .sub) * c .args .symbols + c .args .at < length (c .args .history .now) =
-      omega arith in
+    omega arith in
     getD-read _ _ _ h read _ ∙ sym (cond-false _ _ _ (ne-eqb (c .args .age) 0 (c .if-age-eq0 .left)))

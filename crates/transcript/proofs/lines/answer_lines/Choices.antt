@@ -12,8 +12,8 @@ abbrev pub Inv-loop-rest : given.InvT-loop-rest
 Inv-loop-rest g l =
     (l .sender .code ≡ l .entry .sender .code) × (l .sender .symbols ≡ l .entry .sender .symbols)
     × Turned (g .A·Arithmetic .operations) (g .A·Arithmetic .bytes) (shapeOf (l .entry .sender .code))
-      (coefficientsOf (g .Coef·Sum .sum) (g .Coef·Field .product) (l .entry .sender .code)) (l .entry .sender .symbols)
-      (l .entry .history) (l .entry .sender .next) (linesOf (l .text)) (l .history) (l .sender .next) (linesOf (l .rest)) (string-bytes (l .out))
+    (coefficientsOf (g .Coef·Sum .sum) (g .Coef·Field .product) (l .entry .sender .code)) (l .entry .sender .symbols)
+    (l .entry .history) (l .entry .sender .next) (linesOf (l .text)) (l .history) (l .sender .next) (linesOf (l .rest)) (string-bytes (l .out))
 
 abbrev pub μ-loop-rest : given.MeasureT-loop-rest
 μ-loop-rest g l = length (l .rest)

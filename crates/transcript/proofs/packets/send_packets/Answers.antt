@@ -22,12 +22,12 @@ use Rattle.transcript.proofs.packets.send_packets.Needs as need
 
 -- a packet, a history and a block of a plan, in symbols
 sizes : (b m α l d w n : ℕ) → planShape b m α .memory ≡ d → w ≡ m → n ≡ l
-  → (w * n ≡ packetSize (planShape b m α) l) × (d * (w * n) ≡ historySize (planShape b m α) l) × (w * n + n ≡ blockSize (planShape b m α) l)
+    → (w * n ≡ packetSize (planShape b m α) l) × (d * (w * n) ≡ historySize (planShape b m α) l) × (w * n + n ≡ blockSize (planShape b m α) l)
 sizes b m α l d w n memory width symbols =
     let packet : w * n ≡ packetSize (planShape b m α) l = ap₂ _*_ (width ∙ sym (sources-are b m α)) symbols in
     let block : packetSize (planShape b m α) l + l ≡ blockSize (planShape b m α) l =
-      sym (add-mul (planShape b m α .sources) (planShape b m α .parities) l
-        ∙ ap (λ k. packetSize (planShape b m α) l + k * l) (one-parity b m α) ∙ ap (λ k. packetSize (planShape b m α) l + k) (one-mul l)) in
+    sym (add-mul (planShape b m α .sources) (planShape b m α .parities) l
+    ∙ ap (λ k. packetSize (planShape b m α) l + k * l) (one-parity b m α) ∙ ap (λ k. packetSize (planShape b m α) l + k) (one-mul l)) in
     (packet, ap₂ _*_ (sym memory) packet, ap₂ _+_ packet symbols ∙ block)
 
 pub answer-lines-requires : need.answer-lines-requires
@@ -40,7 +40,7 @@ answer-lines-requires g c κs =
     let shape : shapeOf (c .in-Ok .sender .code) ≡ planShape b m α = ap shapeOf (made .0) ∙ c .code .ensures .shape in
     let symbols : c .in-Ok .sender .symbols ≡ plan .symbols = made .1 ∙ c .symbols-symbols .ensures in
     let memory : planShape b m α .memory ≡ c .deadline .result =
-      ap (λ (x : Shape). x .memory) (sym (c .code .ensures .shape)) ∙ c .code .ensures .memory ∙ sym (c .deadline .ensures) in
+    ap (λ (x : Shape). x .memory) (sym (c .code .ensures .shape)) ∙ c .code .ensures .memory ∙ sym (c .deadline .ensures) in
     let all = sizes b m α (plan .symbols) (c .deadline .result) (c .width .result) (c .symbols-symbols .result) memory (c .width .ensures) (c .symbols-symbols .ensures) in
     record {
       fit = ap unfit shape ∙ plan-fits b m α (plan .widths .0) (plan .widths .1);
@@ -60,12 +60,12 @@ returns g c =
     let shape : shapeOf (c .in-Ok .sender .code) ≡ planShape b m α = ap shapeOf (made .0) ∙ c .code .ensures .shape in
     let symbols : c .in-Ok .sender .symbols ≡ plan .symbols = made .1 ∙ c .symbols-symbols .ensures in
     let memory : planShape b m α .memory ≡ c .deadline .result =
-      ap (λ (x : Shape). x .memory) (sym (c .code .ensures .shape)) ∙ c .code .ensures .memory ∙ sym (c .deadline .ensures) in
+    ap (λ (x : Shape). x .memory) (sym (c .code .ensures .shape)) ∙ c .code .ensures .memory ∙ sym (c .deadline .ensures) in
     let all = sizes b m α (plan .symbols) (c .deadline .result) (c .width .result) (c .symbols-symbols .result) memory (c .width .ensures) (c .symbols-symbols .ensures) in
     let coefficients : coefficientsOf (g .Coef·Sum .sum) (g .Coef·Field .product) (c .in-Ok .sender .code) ≡ planCoefficients (o .coefficients) (o .products) b m α =
-      ap (coefficientsOf (g .Coef·Sum .sum) (g .Coef·Field .product)) (made .0)
-      ∙ code-coefficients (g .Coef·Sum .sum) (g .Coef·Field .product) b m α (c .code .result) (c .code .ensures .parts)
-      ∙ ap₂ (λ (s : Sums (g .A·Coef .Denot)) (p : Products (g .A·Coef .Denot)). planCoefficients s p b m α) (sym (g .A·Arithmetic·met .coefficients)) (sym (g .A·Arithmetic·met .products)) in
+    ap (coefficientsOf (g .Coef·Sum .sum) (g .Coef·Field .product)) (made .0)
+    ∙ code-coefficients (g .Coef·Sum .sum) (g .Coef·Field .product) b m α (c .code .result) (c .code .ensures .parts)
+    ∙ ap₂ (λ (s : Sums (g .A·Coef .Denot)) (p : Products (g .A·Coef .Denot)). planCoefficients s p b m α) (sym (g .A·Arithmetic·met .coefficients)) (sym (g .A·Arithmetic·met .products)) in
     let history = c .as-mut-slice .ensures .value ∙ c .in-Continue-history .ensures tt ∙ ap (λ (n : ℕ). replicate n (o .symbols .zero)) (all .1) in
     made-weaker (c .answer-lines .result) _ (λ s. SentBy o (g .A·Arithmetic .bytes) b m α (plan .symbols) (linesOf (c .args .text .now)) (string-bytes s))
     (λ s e. resent o (g .A·Arithmetic .bytes) (linesOf (c .args .text .now)) (string-bytes s) shape coefficients symbols history (made .2) e)

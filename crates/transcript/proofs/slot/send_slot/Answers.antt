@@ -27,15 +27,15 @@ returns g c =
     let b = g .A·Arithmetic .bytes in
     let sent = c .in-Ok .ensures tt in
     let text : made (c .slot-text .result) (λ s. string-bytes s ≡ slotText b (c .next-slot-slot .result) packet (take (length out - length packet) (drop (length packet) out))) =
-      c .slot-text .ensures in
+    c .slot-text .ensures in
     let many = length-map-counting (paritySymbol (g .A·Arithmetic .operations) x cs l (c .args .history .now) packet) 0 (x .parities * l) in
     let room : length old ≡ length (packet ++ parities) =
-      omega (arith, length-append packet parities, many, c .pre .room, c .pre .whole, add-mul (x .sources) (x .parities) l) in
+    omega (arith, length-append packet parities, many, c .pre .room, c .pre .whole, add-mul (x .sources) (x .parities) l) in
     let same : length out ≡ length old = c .send .kept .out in
     let shown = behind-packet packet parities old out (length out) (sent .block) room (same ∙ room) in
     record {
       shown = made-weaker (c .slot-text .result) _ (λ s. string-bytes s ≡ slotText b (sender .next) packet parities)
-        (λ s e. e ∙ rw (c .next-slot-slot .ensures, shown) refl) text;
+          (λ s e. e ∙ rw (c .next-slot-slot .ensures, shown) refl) text;
       history = sent .history;
       code = sent .code .0;
       symbols = sent .code .1;

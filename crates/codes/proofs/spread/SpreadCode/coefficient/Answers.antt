@@ -14,7 +14,7 @@ returns-then-age-step-eq0 g c =
     let found = rw step at (c .coefficient .ensures .value) in
     let whole = rw step at (c .if-age-step-eq0 .taken) in
     let is : c .coefficient .result ≡ spread (g .F·Sum .sum) inner (self .step .value) (c .args .parity) (c .args .age) (c .args .sub) =
-      found ∙ sym (cond-true _ _ _ (eq-eqb _ 0 whole)) in
+    found ∙ sym (cond-true _ _ _ (eq-eqb _ 0 whole)) in
     record {
       value = is;
       outside = λ o. is ∙ spread-bounded (g .F·Sum .sum) shape inner (self .step .value) (g .X·Code·met .bounded (self .code)) _ _ _ (omega arith) o;

@@ -26,7 +26,7 @@ returns-then-sub-self c =
     let within : at < length items = omega (arith, cell, self .whole, self .bytes .ok .0) in
     let read = c .new .ensures ∙ getD-read items at _ within (c .index .ensures) 0 in
     let test = and-from _ _ (lt-ltb (c .args .parity) (self .parities) (c .if-parity-self .taken))
-      (and-from _ _ (le-leb (c .args .age) (self .memory) (c .if-age-self .taken)) (lt-ltb (c .args .sub) (self .sources) (c .if-sub-self .taken))) in
+    (and-from _ _ (le-leb (c .args .age) (self .memory) (c .if-age-self .taken)) (lt-ltb (c .args .sub) (self .sources) (c .if-sub-self .taken))) in
     record {
       value = is-byte (c .new .result) _ read ∙ sym (cond-true _ _ _ test);
       outside = λ o. absurd (elim o [ inl p ↦ omega arith | inr q ↦ elim q [ inl k ↦ omega arith | inr a ↦ omega arith ] ]);
