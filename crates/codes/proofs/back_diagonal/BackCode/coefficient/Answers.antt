@@ -4,7 +4,7 @@ use native.Mathlib.Omega.{arith}
 use Rattle.std.proofs.shelf.Tests.{cond-true, eq-eqb, lt-ltb, and-from}
 use Rattle.codes.specs.Coefficients.{backDiagonal}
 use Rattle.codes.proofs.Bounded.{back-bounded}
-use Rattle.codes.proofs.diagonal.BackCode.coefficient.Needs as need
+use Rattle.codes.proofs.back_diagonal.BackCode.coefficient.Needs as need
 
 pub returns-then-from-step : need.returns-then-from-step
 returns-then-from-step g c =
