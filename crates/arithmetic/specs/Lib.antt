@@ -1,3 +1,4 @@
 pub mod Laws
 pub mod Operations
+pub mod Totals
 pub mod Xor

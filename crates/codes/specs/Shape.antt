@@ -1,5 +1,5 @@
 -- What a code means besides its coefficients.
-use Prim.Native.Nat.{ℕ, _^_, _≤_, _<_, min}
+use Prim.Native.Nat.{ℕ, _+_, _*_, _≤_, _<_, min}
 use mathlib.Core.Bool.{Bool, _||_}
 use mathlib.Core.Logic.{_⊎_}
 use lib.Dec.{ltb}
@@ -21,3 +21,18 @@ capped n = min n 4294967295
 -- the number n is not one of low to high
 abbrev pub outOf : ℕ → ℕ → ℕ → Bool
 outOf low high n = ltb n low || ltb high n
+
+-- a packet has 1 to 8 sub-symbols, a block 1 to 4 parities: what a link can carry
+abbrev pub unfit : Shape → Bool
+unfit x = outOf 1 8 (x .sources) || outOf 1 4 (x .parities)
+
+-- the symbols of a packet and of a block, with l symbols to a sub-symbol
+abbrev pub packetSize : Shape → ℕ → ℕ
+packetSize x l = x .sources * l
+
+abbrev pub blockSize : Shape → ℕ → ℕ
+blockSize x l = (x .sources + x .parities) * l
+
+-- the last slot of a link
+abbrev pub lastSlot : ℕ
+lastSlot = 268435455

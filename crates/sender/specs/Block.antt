@@ -7,18 +7,12 @@ use lib.Dec.{eqb}
 use lib.ListN.{length, getD, take, drop}
 use Rattle.std.specs.Iters.{counting}
 use Rattle.arithmetic.specs.Operations.{Operations}
-use Rattle.codes.specs.Shape.{Shape}
-use Rattle.sender.specs.Parity.{parity}
+use Rattle.codes.specs.Shape.{Shape, packetSize}
+use Rattle.codes.specs.Parity.{parity}
 
--- the symbols of a packet, of a code's history of M packets, and of a block
-abbrev pub packetSize : Shape → ℕ → ℕ
-packetSize x l = x .sources * l
-
+-- the symbols of a history: as many packets as the code's memory says
 abbrev pub historySize : Shape → ℕ → ℕ
 historySize x l = x .memory * packetSize x l
-
-abbrev pub blockSize : Shape → ℕ → ℕ
-blockSize x l = (x .sources + x .parities) * l
 
 -- symbol i of sub-symbol k of the packet a slots ago: of the packet itself, or of the history, oldest packet first
 abbrev pub recent : {S : Type 0} → S → Shape → ℕ → List S → List S → ℕ → ℕ → ℕ → S

@@ -1,3 +1,2 @@
-pub mod Parity
 pub mod Block
 pub mod Limits

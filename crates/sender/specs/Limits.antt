@@ -6,16 +6,8 @@ use Rattle.std.specs.declared.option.Option.{Option}
 use Rattle.refusal.specs.declared.Refusal.{Refusal}
 use Rattle.refusal.specs.declared.Refusal.the-variants.{OutsideLimits, UnfitShape, ShortMemory, OtherLength, ShortOutput, SlotBelow, SlotAbove}
 use Rattle.refusal.specs.Order.{refused, accepted}
-use Rattle.codes.specs.Shape.{Shape, outOf}
-use Rattle.sender.specs.Block.{packetSize, historySize, blockSize}
-
--- the last slot of a link
-abbrev pub lastSlot : ℕ
-lastSlot = 268435455
-
--- a packet has 1 to 8 sub-symbols, a block 1 to 4 parities
-abbrev pub unfit : Shape → Bool
-unfit x = outOf 1 8 (x .sources) || outOf 1 4 (x .parities)
+use Rattle.codes.specs.Shape.{Shape, outOf, unfit, packetSize, blockSize, lastSlot}
+use Rattle.sender.specs.Block.{historySize}
 
 abbrev pub makingRefusal : Shape → ℕ → Option Refusal
 makingRefusal x l = refused (outOf 1 32 l) OutsideLimits (refused (unfit x) UnfitShape accepted)

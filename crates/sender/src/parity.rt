@@ -1,7 +1,7 @@
 ghost use Prim.Native.Nat.{_*_, _≤_, _<_};
 ghost use mathlib.Core.Path.{_≡_};
 ghost use lib.ListN.{length};
-ghost use Rattle.sender.specs.Parity.{ageSum, parity as paritySpec};
+ghost use Rattle.codes.specs.Parity.{ageSum, parity as paritySpec};
 ghost use Rattle.sender.specs.Block.{recent, Fits};
 use arithmetic::arithmetic::Arithmetic;
 use arithmetic::combine::add;

@@ -4,16 +4,15 @@ ghost use lib.ListN.{length};
 ghost use Rattle.std.specs.Results.{errPart};
 ghost use Rattle.std.specs.Vec.{made, refused as ifRefused};
 ghost use Rattle.sender.specs.Block.{blockOf, historyAfter, writtenOver};
-ghost use Rattle.sender.specs.Limits.{makingRefusal, sendRefusal, unfit};
+ghost use Rattle.sender.specs.Limits.{makingRefusal, sendRefusal};
 use crate::block::write_block;
 use crate::history::advance;
 use arithmetic::arithmetic::Arithmetic;
 use codes::code::Code;
+use codes::link::LAST_SLOT;
+use codes::link::unfit;
 use refusal::Refusal;
 use std::marker::PhantomData;
-
-// The last slot of a link.
-pub const LAST_SLOT: u32 = 268_435_455;
 
 // The sending end of one link: its code, the symbols of a sub-symbol, and the slot that comes next.
 #[derive(Drop)]
@@ -34,7 +33,7 @@ impl<A: Arithmetic, C: Code<A::Coef> + Drop> Sender<A, C> {
         if symbols < 1 || symbols > 32 {
             return Err(Refusal::OutsideLimits);
         }
-        if unfit_shape::<A, C>(&code) {
+        if unfit::<A::Coef, C>(&code) {
             return Err(Refusal::UnfitShape);
         }
         Ok(Sender {
@@ -70,7 +69,7 @@ impl<A: Arithmetic, C: Code<A::Coef> + Drop> Sender<A, C> {
         if slot > LAST_SLOT {
             return Err(Refusal::OutsideLimits);
         }
-        if unfit_shape::<A, C>(&self.code) {
+        if unfit::<A::Coef, C>(&self.code) {
             return Err(Refusal::UnfitShape);
         }
         let symbols = self.symbols as usize;
@@ -96,13 +95,4 @@ impl<A: Arithmetic, C: Code<A::Coef> + Drop> Sender<A, C> {
         self.next = slot + 1;
         Ok(())
     }
-}
-
-// A packet has 1 to 8 sub-symbols, and a block 1 to 4 parities.
-fn unfit_shape<A: Arithmetic, C: Code<A::Coef>>(code: &C) -> bool
-    ensures { λ r. ⌜ r ≡ unfit (C·Code .shape (now (code .entry))) ⌝ }
-{
-    let sources = code.sources();
-    let parities = code.parities();
-    sources < 1 || sources > 8 || parities < 1 || parities > 4
 }

@@ -15,7 +15,7 @@ use Rattle.std.specs.declared.option.Option.the-variants.{Some, None}
 use Rattle.refusal.specs.declared.Refusal.the-variants.{OutsideLimits, OtherLength, BrokenLine}
 use Rattle.refusal.specs.Order.{refused, accepted}
 use Rattle.linktext.specs.PlanLine.{longest}
-use Rattle.sender.specs.Limits.{lastSlot}
+use Rattle.codes.specs.Shape.{lastSlot}
 use Rattle.transcript.specs.Sending.{lineRefusal}
 use Rattle.std.specs.shelf.Lists.{joined}
 use Rattle.arithmetic.specs.Laws.{ByteLaws}

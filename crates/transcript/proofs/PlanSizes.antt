@@ -5,10 +5,9 @@ use mathlib.Core.Bool.{Bool, true, false, cond, _||_}
 use native.Mathlib.Omega.{arith}
 use lib.Dec.{eqb, ltb}
 use Rattle.std.proofs.shelf.Tests.{cond-both, le-ltb, or-from}
-use Rattle.codes.specs.Shape.{Shape, outOf}
+use Rattle.codes.specs.Shape.{Shape, outOf, unfit}
 use Rattle.codes.specs.Coefficients.{mainShape, backShape, overlayShape, spreadShape}
 use Rattle.plan.specs.Codes.{planShape}
-use Rattle.sender.specs.Limits.{unfit}
 
 pub sources-are : (b m α : ℕ) → planShape b m α .sources ≡ m
 sources-are b m α =

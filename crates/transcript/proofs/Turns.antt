@@ -8,8 +8,8 @@ use Rattle.refusal.specs.declared.Refusal.{Refusal}
 use Rattle.hex.specs.declared.error.ReadError.{ReadError}
 use Rattle.hex.specs.declared.error.ReadError.the-variants.{Refused, NoMemory}
 use Rattle.arithmetic.specs.Operations.{Operations, Bytes}
-use Rattle.codes.specs.Shape.{Shape}
-use Rattle.sender.specs.Block.{packetSize, paritiesOf}
+use Rattle.codes.specs.Shape.{Shape, packetSize}
+use Rattle.sender.specs.Block.{paritiesOf}
 use Rattle.linktext.specs.Lines.{refusalText, slotText}
 use Rattle.transcript.specs.Sending.{Sent, lineRefusal}
 use Rattle.transcript.specs.Sending.Sent.{ended, stopped, sent}

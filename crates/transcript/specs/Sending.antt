@@ -15,9 +15,8 @@ use Rattle.refusal.specs.declared.Refusal.{Refusal}
 use Rattle.refusal.specs.declared.Refusal.the-variants.{OutsideLimits, OtherLength, BrokenLine}
 use Rattle.refusal.specs.Order.{refused, accepted}
 use Rattle.arithmetic.specs.Operations.{Operations, Bytes}
-use Rattle.codes.specs.Shape.{Shape}
-use Rattle.sender.specs.Block.{packetSize, historySize, blockSize, historyAfter, paritiesOf}
-use Rattle.sender.specs.Limits.{lastSlot, unfit}
+use Rattle.codes.specs.Shape.{Shape, packetSize, blockSize, unfit, lastSlot}
+use Rattle.sender.specs.Block.{historySize, historyAfter, paritiesOf}
 use Rattle.hex.specs.declared.error.ReadError.{ReadError}
 use Rattle.hex.specs.declared.error.ReadError.the-variants.{Refused, NoMemory}
 use Rattle.hex.specs.Digits.{isHex}

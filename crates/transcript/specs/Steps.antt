@@ -6,12 +6,12 @@ use Rattle.std.specs.declared.option.Option.the-variants.{Some, None}
 use Rattle.std.specs.declared.result.Result.{Result}
 use Rattle.std.specs.declared.result.Result.the-variants.{Ok, Err}
 use Rattle.arithmetic.specs.Operations.{Operations, Bytes}
-use Rattle.codes.specs.Shape.{Shape}
+use Rattle.codes.specs.Shape.{Shape, packetSize}
 use Rattle.hex.specs.declared.error.ReadError.{ReadError}
 use Rattle.hex.specs.declared.error.ReadError.the-variants.{Refused, NoMemory}
 use Rattle.hex.specs.Packet.{packetText}
 use Rattle.linktext.specs.Lines.{refusalText, slotText}
-use Rattle.sender.specs.Block.{packetSize, historyAfter, paritiesOf}
+use Rattle.sender.specs.Block.{historyAfter, paritiesOf}
 use Rattle.transcript.specs.Sending.{lineRefusal}
 
 -- the packet that the line hands in was sent and shown, and the history took it in

@@ -1,10 +1,10 @@
 ghost use Rattle.transcript.specs.Sending.{LineReads};
 use arithmetic::arithmetic::Arithmetic;
+use codes::link::LAST_SLOT;
 use hex::error::ReadError;
 use hex::read::read_packet;
 use linktext::plan_line::LONGEST_LINE;
 use refusal::Refusal;
-use sender::sender::LAST_SLOT;
 use std::alloc::Global;
 
 // The packet that a line hands in for this slot, of so many symbols.

@@ -1,7 +1,7 @@
 use mathlib.Core.Path.{_≡_, refl}
-use Rattle.sender.specs.Parity.{term}
+use Rattle.codes.specs.Parity.{term}
 use Rattle.sender.specs.Block.{recent}
-use Rattle.sender.proofs.Sums.{sum-more}
+use Rattle.arithmetic.proofs.TotalLaws.{sum-more}
 use Rattle.sender.proofs.parity.age_sum.Needs as need
 
 pub loop-sub-again : need.loop-sub-again

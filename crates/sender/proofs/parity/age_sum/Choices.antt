@@ -1,5 +1,6 @@
 use mathlib.Core.Path.{_≡_}
-use Rattle.sender.specs.Parity.{sumBelow, term}
+use Rattle.codes.specs.Parity.{term}
+use Rattle.arithmetic.specs.Totals.{sumBelow}
 use Rattle.sender.specs.Block.{recent}
 use Rattle.sender.proofs.parity.age_sum.Given as given
 

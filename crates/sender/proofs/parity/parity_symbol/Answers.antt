@@ -1,8 +1,8 @@
 use mathlib.Core.Path.{_≡_}
 use native.Mathlib.Omega.{arith}
-use Rattle.sender.specs.Parity.{ageSum}
+use Rattle.codes.specs.Parity.{ageSum}
 use Rattle.sender.specs.Block.{recent}
-use Rattle.sender.proofs.Sums.{sum-more}
+use Rattle.arithmetic.proofs.TotalLaws.{sum-more}
 use Rattle.sender.proofs.parity.parity_symbol.Needs as need
 
 pub loop-age-again : need.loop-age-again

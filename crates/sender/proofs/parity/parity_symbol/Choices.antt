@@ -1,5 +1,6 @@
 use mathlib.Core.Path.{_≡_}
-use Rattle.sender.specs.Parity.{sumBelow, ageSum}
+use Rattle.codes.specs.Parity.{ageSum}
+use Rattle.arithmetic.specs.Totals.{sumBelow}
 use Rattle.sender.specs.Block.{recent}
 use Rattle.sender.proofs.parity.parity_symbol.Given as given
 

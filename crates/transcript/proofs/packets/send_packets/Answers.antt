@@ -7,12 +7,11 @@ use lib.ListN.{length, replicate, length-replicate}
 use Rattle.std.specs.Of.String.{string-bytes}
 use Rattle.std.proofs.shelf.Results.{made-weaker}
 use Rattle.arithmetic.specs.Operations.{Sums, Products}
-use Rattle.codes.specs.Shape.{Shape}
+use Rattle.codes.specs.Shape.{Shape, packetSize, blockSize, unfit}
 use Rattle.plan.specs.declared.code.PlanCode.{PlanCode}
 use Rattle.plan.specs.Codes.{planShape, planCoefficients, shapeOf, coefficientsOf}
 use Rattle.plan.proofs.Means.{code-coefficients}
-use Rattle.sender.specs.Block.{packetSize, historySize, blockSize}
-use Rattle.sender.specs.Limits.{unfit}
+use Rattle.sender.specs.Block.{historySize}
 use Rattle.linktext.specs.Fields.{linesOf}
 use Rattle.transcript.specs.Sending.{Sent}
 use Rattle.transcript.specs.Transcript.{SentBy}

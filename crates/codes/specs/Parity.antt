@@ -1,12 +1,8 @@
 -- The parities of a slot. Assumes nothing.
-use Prim.Native.Nat.{ℕ, zero, suc, _+_}
-use Rattle.arithmetic.specs.Operations.{Sums, Operations}
+use Prim.Native.Nat.{ℕ, _+_}
+use Rattle.arithmetic.specs.Operations.{Operations}
+use Rattle.arithmetic.specs.Totals.{sumBelow}
 use Rattle.codes.specs.Shape.{Shape}
-
--- f 0 + f 1 + .. + f (n - 1)
-abbrev pub sumBelow : {S : Type 0} → Sums S → ℕ → (ℕ → S) → S
-sumBelow s zero f = s .zero
-sumBelow s (suc n) f = s .plus (sumBelow s n f) (f n)
 
 -- what sub-symbol k of the packet a slots ago adds to symbol i of parity j; past a k i is that sub-symbol's symbol i
 abbrev pub term : {F S : Type 0} → Operations F S → (ℕ → ℕ → ℕ → F) → (ℕ → ℕ → ℕ → S) → ℕ → ℕ → ℕ → ℕ → S

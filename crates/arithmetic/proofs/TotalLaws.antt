@@ -2,8 +2,8 @@
 use Prim.Native.Nat.{ℕ, _+_}
 use mathlib.Core.Path.{_≡_, refl}
 use native.Mathlib.Numerals.{add-one}
 use Rattle.arithmetic.specs.Operations.{Sums}
-use Rattle.sender.specs.Parity.{sumBelow}
+use Rattle.arithmetic.specs.Totals.{sumBelow}
 
 -- a loop's turn: r is what was added up before, plus the next term
 pub sum-more : {S : Type 0} (s : Sums S) (n : ℕ) (f : ℕ → S) (before next r : S)
