@@ -17,6 +17,7 @@ byte n = record { value = n % 256; ok = mod-lt n (lit< tt) }
 abbrev pub valueOf : Byte → ℕ
 valueOf a = a .value
 
+-- the sum of two bytes is their exclusive or
 abbrev pub byteSums : Sums Byte
 byteSums = xorSums valueOf byte
 

@@ -23,6 +23,7 @@ recent d x l history packet a k i =
 abbrev pub paritySymbol : {F S : Type 0} → Operations F S → Shape → (ℕ → ℕ → ℕ → F) → ℕ → List S → List S → ℕ → S
 paritySymbol o x c l history packet n = parity o x c (recent (o .symbols .zero) x l history packet) (n / l) (n % l)
 
+-- all of them, as the block has them behind its packet
 abbrev pub paritiesOf : {F S : Type 0} → Operations F S → Shape → (ℕ → ℕ → ℕ → F) → ℕ → List S → List S → List S
 paritiesOf o x c l history packet = map (paritySymbol o x c l history packet) (counting 0 (x .parities * l))
 

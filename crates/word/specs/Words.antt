@@ -13,5 +13,6 @@ word n = record { value = n % 2 ^ 32; ok = mod-lt n (lit< tt) }
 abbrev pub valueOf : Word → ℕ
 valueOf x = x .value
 
+-- the sum of two words is their exclusive or
 abbrev pub wordSums : Sums Word
 wordSums = xorSums valueOf word
