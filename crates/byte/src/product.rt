@@ -1,5 +1,5 @@
 ghost use Rattle.std.specs.Prelude.{◌≡◌};
-ghost use Rattle.galois.specs.Product.{double as doubleOf, product as productOf};
+ghost use Rattle.galois.specs.Product.{double as double_of, product as product_of};
 ghost use Rattle.galois.specs.Remainder.{carryless, Remainder};
 
 use crate::element::Byte;
@@ -7,7 +7,7 @@ use crate::element::Byte;
 impl Byte {
     // The product of the two polynomials, modulo the field's: the sum of this byte's doublings at the bits of the other.
     pub fn product(self, other: Byte) -> Byte
-        ensures value { result.value ≡ productOf self.value other.value }
+        ensures value { result.value ≡ product_of self.value other.value }
         ensures remainder { Remainder (carryless 8 self.value other.value) result.value }
     {
         let mut sum = 0;
@@ -26,7 +26,7 @@ impl Byte {
 
 // Times x. A ninth bit is taken off by the field's polynomial, 285.
 fn double(value: u8) -> u8
-    ensures { result ≡ doubleOf value }
+    ensures { result ≡ double_of value }
 {
     if value < 128 {
         value * 2

@@ -1,6 +1,6 @@
 ghost use Rattle.byte.specs.Arithmetic.{byte_operations, byte_strings};
 ghost use Rattle.byte.specs.Laws.{byte_laws, byte_string_laws};
-ghost use Rattle.std.proofs.Common.{rules};
+ghost use Rattle.std.specs.Prelude.{refl};
 
 use crate::element::Byte;
 use arithmetic::arithmetic::Arithmetic;
@@ -19,11 +19,11 @@ impl Arithmetic for ByteArithmetic {
 
     ghost bytes = { byte_strings };
 
-    ghost coefficients = { Prim.search rules };
+    ghost coefficients = { refl };
 
-    ghost products = { Prim.search rules };
+    ghost products = { refl };
 
-    ghost symbols = { Prim.search rules };
+    ghost symbols = { refl };
 
     ghost laws = { byte_laws };
 

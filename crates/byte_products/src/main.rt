@@ -1,4 +1,6 @@
 // Compares the products and inverses of `Byte` with tables that another library made. `data/README.md` says how.
+#![tactic(auto)]
+
 ghost use Rattle.std.specs.Prelude.{◌≡◌, ℕ, ◌<◌, length, MatchOption, ◌≢◌, slice_index};
 ghost use Rattle.byte_products.specs.Entry.{entry_of};
 

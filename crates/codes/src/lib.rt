@@ -1,4 +1,6 @@
 // Codes: which earlier sub-symbols each parity of a block adds up.
+#![tactic(auto)]
+
 pub mod back_diagonal;
 pub mod code;
 pub mod link;

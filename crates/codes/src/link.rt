@@ -1,5 +1,5 @@
 ghost use Rattle.std.specs.Prelude.{◌≡◌};
-ghost use Rattle.codes.specs.Shape.{unfit as unfitSpec};
+ghost use Rattle.codes.specs.Shape.{unfit as unfit_spec};
 
 use crate::code::Code;
 use arithmetic::field::Field;
@@ -9,7 +9,7 @@ pub const LAST_SLOT: u32 = 268_435_455;
 
 // Whether a link cannot carry the code: a packet has 1 to 8 sub-symbols, and a block 1 to 4 parities.
 pub fn unfit<F: Field, C: Code<F>>(code: &C) -> bool
-    ensures { result ≡ unfitSpec (C.Code.shape code.now) }
+    ensures { result ≡ unfit_spec (C.Code.shape code.now) }
 {
     let sources = code.sources();
     let parities = code.parities();

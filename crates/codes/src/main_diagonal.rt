@@ -4,7 +4,7 @@ ghost use Rattle.refusal.specs.Order.{refused, accepted};
 ghost use Rattle.refusal.specs.declared.Refusal.TheVariants.{OutsideLimits};
 ghost use Rattle.codes.specs.Shape.{out_of};
 ghost use Rattle.codes.specs.Coefficients.{main_shape, main_coefficients};
-ghost use Rattle.std.proofs.Common.{rules, arith};
+ghost use Rattle.codes.specs.Bounded.{main_bounded};
 
 use crate::code::Code;
 use arithmetic::field::Field;
@@ -35,7 +35,7 @@ impl<F: Field> Code<F> for MainDiagonal {
 
     ghost coefficients = { λ d. main_coefficients F.Sum.sum F.Field.product d.width };
 
-    ghost bounded = { first_of (Prim.search rules, Prim.grind (arith, Self.row.coded.inj)) };
+    ghost bounded = { λ code. main_bounded F.Sum.sum F.Field.product code.width };
 
     fn sources(&self) -> u32 {
         self.width

@@ -1,6 +1,6 @@
 ghost use Rattle.std.specs.Prelude.{◌≡◌};
 ghost use Rattle.codes.specs.Coefficients.{overlay_shape, overlay};
-ghost use Rattle.std.proofs.Common.{rules};
+ghost use Rattle.codes.specs.Bounded.{overlay_bounded};
 
 use crate::code::Code;
 use arithmetic::field::Field;
@@ -18,7 +18,10 @@ impl<F: Field, X: Code<F>, Y: Code<F>> Code<F> for Overlay<X, Y> {
 
     ghost coefficients = { λ c. overlay F.Sum.sum (X.Code.coefficients c.first) (Y.Code.coefficients c.second) c.delay };
 
-    ghost bounded = { Prim.search rules };
+    ghost bounded = { λ code.
+        overlay_bounded F.Sum.sum F.Sum.sums (X.Code.shape code.first) (Y.Code.shape code.second)
+        (X.Code.coefficients code.first) (Y.Code.coefficients code.second) code.delay
+        (X.Code.bounded code.first) (Y.Code.bounded code.second) };
 
     fn sources(&self) -> u32 {
         self.first.sources().max(self.second.sources())

@@ -1,4 +1,6 @@
 // Writes and reads frames, whole and damaged, and compares what comes of it.
+#![tactic(auto)]
+
 #[cfg(test)]
 mod reading;
 #[cfg(test)]

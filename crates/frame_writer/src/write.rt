@@ -4,7 +4,7 @@ ghost use Rattle.std.specs.List.{flat_map};
 ghost use Rattle.codes.specs.Shape.{last_slot};
 ghost use Rattle.layout.specs.Layout.{Lawful, word_of_count, count_of_data, word_of_data, frame, word_of_shape, word_of_slot};
 ghost use Rattle.layout.specs.Words.{word_bytes};
-ghost use Rattle.layout.specs.Frames.{BeginsWith, frame_of, outside as outsideSpec, words_of};
+ghost use Rattle.layout.specs.Frames.{BeginsWith, frame_of, outside as outside_spec, words_of};
 ghost use Rattle.frame_writer.specs.Writing.{write_refusal, NoOther};
 
 use crate::bytes::{block_byte, block_len};
@@ -15,7 +15,7 @@ use refusal::Refusal;
 
 // Whether the slot, K, P or L lies outside its limits.
 fn outside(slot: u32, shape: BlockShape) -> bool
-    ensures { result ≡ outsideSpec slot shape }
+    ensures { result ≡ outside_spec slot shape }
 {
     slot > LAST_SLOT || shape.is_outside()
 }

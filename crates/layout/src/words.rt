@@ -1,5 +1,5 @@
 ghost use Rattle.std.specs.Prelude.{◌≡◌, ◌+◌, ◌*◌, ◌<◌, ◌≤◌, length};
-ghost use Rattle.layout.specs.Words.{bits as bitsSpec, word_in};
+ghost use Rattle.layout.specs.Words.{bits as bits_spec, word_in};
 ghost use Rattle.layout.specs.Kinds.{KindIs};
 
 // The kind of a word, which its top four bits tell.
@@ -16,7 +16,7 @@ pub enum Kind {
 pub fn bits(word: u32, high: u32, low: u32) -> u32
     requires order { low ≤ high }
     requires within { high < 32 }
-    ensures { result ≡ bitsSpec high low word }
+    ensures { result ≡ bits_spec high low word }
 {
     (word >> low) & (u32::MAX >> (31 - (high - low)))
 }

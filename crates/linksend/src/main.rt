@@ -1,4 +1,6 @@
 // Shows what a truck puts on air: reads a link's text from standard input, and prints the plan and every block.
+#![tactic(auto)]
+
 use std::io::Read;
 use transcript::whole::transcript;
 

@@ -1,4 +1,6 @@
 // Plans: what the cards in truck and studio agree on, and the code that follows from them.
+#![tactic(auto)]
+
 pub mod card;
 pub mod code;
 

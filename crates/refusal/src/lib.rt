@@ -1,4 +1,6 @@
 // Why a call was refused. One closed list for the whole library, so that a caller can match on it.
+#![tactic(auto)]
+
 ghost use Rattle.std.specs.Prelude.{◌≡◌};
 ghost use Rattle.refusal.specs.Number.{number_of};
 

@@ -1,5 +1,5 @@
 ghost use Rattle.std.specs.Prelude.{◌≡◌, ◌*◌, ◌<◌, ◌≤◌, length};
-ghost use Rattle.codes.specs.Parity.{sum_of_age, parity as paritySpec};
+ghost use Rattle.codes.specs.Parity.{sum_of_age, parity as parity_spec};
 ghost use Rattle.sender.specs.Block.{recent, Fits};
 
 use arithmetic::arithmetic::Arithmetic;
@@ -60,7 +60,7 @@ pub(crate) fn parity_symbol<A: Arithmetic, C: Code<A::Coef>>(
 ) -> A::Sym
     requires fits { Fits (C.Code.shape code.now) symbols (length history.now) (length packet.now) }
     requires place { at < symbols }
-    ensures { result ≡ paritySpec A.Arithmetic.operations (C.Code.shape code.now) (C.Code.coefficients code.now) (recent A.Arithmetic.operations.symbols.zero (C.Code.shape code.now) symbols history.now packet.now) parity at }
+    ensures { result ≡ parity_spec A.Arithmetic.operations (C.Code.shape code.now) (C.Code.coefficients code.now) (recent A.Arithmetic.operations.symbols.zero (C.Code.shape code.now) symbols history.now packet.now) parity at }
 {
     let mut sum = no_terms::<A>();
     let oldest = code.memory();

@@ -1,4 +1,6 @@
 // Compares what is printed for many links with what an independent program computed: `data/README.md` says how.
+#![tactic(auto)]
+
 use anyhow::anyhow;
 use std::alloc::{AllocError, Global};
 use std::fs;

@@ -1,5 +1,5 @@
 ghost use Rattle.table.specs.Table.{table_coefficients};
-ghost use Rattle.std.proofs.Common.{rules, arith};
+ghost use Rattle.table.specs.Bounded.{table_bounded};
 
 use crate::coefficients::CoefficientTable;
 use arithmetic::sum::Sum;
@@ -11,7 +11,7 @@ impl Code<Byte> for CoefficientTable {
 
     ghost coefficients = { λ t. table_coefficients (record { sources = t.sources; parities = t.parities; memory = t.memory }) t.bytes.items };
 
-    ghost bounded = { first_of (Prim.search rules, Prim.grind (arith, Self.row.coded.inj)) };
+    ghost bounded = { λ t. table_bounded (record { sources = t.sources; parities = t.parities; memory = t.memory }) t.bytes.items };
 
     fn sources(&self) -> u32 {
         self.sources

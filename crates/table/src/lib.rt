@@ -1,4 +1,6 @@
 // Codes from a table of coefficients, for byte arithmetic.
+#![tactic(auto)]
+
 pub mod code;
 pub mod coefficients;
 

@@ -13,10 +13,10 @@ use Rattle.word.specs.Bits.{bit_sums, bit_products, bit_plus, bit_times}
 use Rattle.word.specs.Words.{word, value_of, word_sums}
 use Rattle.word.specs.Arithmetic.{word_scale, word_operations}
 
-bit_sum_laws : SumLaws bit_sums
+pub bit_sum_laws : SumLaws bit_sums
 bit_sum_laws = search rules
 
-bit_product_laws : ProductLaws bit_sums bit_products
+pub bit_product_laws : ProductLaws bit_sums bit_products
 bit_product_laws = search rules
 
 same_word : (a b : Word) → a.value ≡ b.value → a ≡ b

@@ -1,5 +1,5 @@
 ghost use Rattle.word.specs.Bits.{bit_sums, bit_products};
-ghost use Rattle.std.proofs.Common.{rules};
+ghost use Rattle.word.specs.Laws.{bit_sum_laws, bit_product_laws};
 
 use arithmetic::field::Field;
 use arithmetic::sum::Sum;
@@ -14,7 +14,7 @@ pub enum Bit {
 impl Sum for Bit {
     ghost sum = { bit_sums };
 
-    ghost sums = { Prim.search rules };
+    ghost sums = { bit_sum_laws };
 
     fn zero() -> Bit {
         Bit::Off
@@ -46,7 +46,7 @@ impl Sum for Bit {
 impl Field for Bit {
     ghost product = { bit_products };
 
-    ghost products = { Prim.search rules };
+    ghost products = { bit_product_laws };
 
     fn one() -> Bit {
         Bit::On

@@ -1,4 +1,6 @@
 // Word arithmetic: coefficients are single bits, symbols are 32-bit words, and a sum is exclusive or.
+#![tactic(auto)]
+
 pub mod bit;
 pub mod element;
 pub mod sums;

@@ -1,7 +1,7 @@
 ghost use Rattle.word.specs.Arithmetic.{word_operations, word_strings};
 ghost use Rattle.word.specs.Laws.{word_laws};
 ghost use Rattle.word.specs.Strings.{word_string_laws};
-ghost use Rattle.std.proofs.Common.{rules};
+ghost use Rattle.std.specs.Prelude.{refl};
 
 use crate::bit::Bit;
 use crate::element::Word;
@@ -21,11 +21,11 @@ impl Arithmetic for WordArithmetic {
 
     ghost bytes = { word_strings };
 
-    ghost coefficients = { Prim.search rules };
+    ghost coefficients = { refl };
 
-    ghost products = { Prim.search rules };
+    ghost products = { refl };
 
-    ghost symbols = { Prim.search rules };
+    ghost symbols = { refl };
 
     ghost laws = { word_laws };
 

@@ -12,15 +12,15 @@ loop-step-init c =
 pub loop-step-preserved : goal.loop-step-preserved
 loop-step-preserved c =
     let square = c.product-square.ensures.value in
-    ap₂ (λ (r s : ℕ). product r (squarings (7 - (c.loop-step.-step + 1)) s))
+    ap₂ (λ (r s : ℕ). product r (squarings (7 - (c.loop-step._step + 1)) s))
     (c.product-result.ensures.value ∙ ap (product c.loop-step.result.value) square)
     square
-    ∙ squarings_more c.loop-step.-step c.loop-step.result.value c.loop-step.square.value
+    ∙ squarings_more c.loop-step._step c.loop-step.result.value c.loop-step.square.value
     (omega arith) c.loop-step.result.ok c.loop-step.square.ok
     ∙ c.loop-step.invariant
 
 pub returns : goal.returns
 returns c =
-    sym (squarings_none c.loop-step.-step c.loop-step.result.value c.loop-step.square.value
+    sym (squarings_none c.loop-step._step c.loop-step.result.value c.loop-step.square.value
     (omega arith) c.loop-step.result.ok)
     ∙ c.loop-step.invariant

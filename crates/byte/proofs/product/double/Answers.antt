@@ -3,8 +3,8 @@ use lib.Bits.{bit_xor}
 use Rattle.galois.proofs.Steps.{double_low, double_high, top_cancels}
 use Rattle.byte.proofs.product.double.Goals as goal
 
-pub overflow-cast-result : goal.overflow-cast-result
-overflow-cast-result c =
+pub overflow_cast-result : goal.overflow_cast-result
+overflow_cast-result c =
     let low : 256 ≤ c.from.result * 2 = omega arith in
     let high : c.from.result * 2 < 512 = omega arith in
     record { fits = top_cancels (c.from.result * 2) _ low high (lit≤ tt) (lit< tt) }

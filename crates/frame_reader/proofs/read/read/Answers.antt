@@ -17,7 +17,7 @@ returns-in-Err g c =
     let laws = g.met.A.Arithmetic.strings in
     let bs = c.args.bytes.now in
     let old = c.args.out.now in
-    let small = λ (n : ℕ). (c.type-inv.bytes n).fits in
+    let small = λ (n : ℕ). (c.type_inv.bytes n).fits in
     let found : frame_fault bs ≡ Some c.in-Err.fault = sym c.in-Err.ensures.fault in
     record {
       refusal = fault_refusal b laws bs small old old c.in-Err.fault found;
@@ -26,17 +26,17 @@ returns-in-Err g c =
       unchanged = refl;
     }
 
-pub returns-then-checked-symbol-width : goal.returns-then-checked-symbol-width
-returns-then-checked-symbol-width g c =
+pub returns-then-checked-symbol_width : goal.returns-then-checked-symbol_width
+returns-then-checked-symbol_width g c =
     let b = g.A.Arithmetic.bytes in
     let laws = g.met.A.Arithmetic.strings in
     let bs = c.args.bytes.now in
     let old = c.args.out.now in
-    let small = λ (n : ℕ). (c.type-inv.bytes n).fits in
+    let small = λ (n : ℕ). (c.type_inv.bytes n).fits in
     let right : frame_fault bs ≡ None = sym c.in-Ok.ensures.fault in
     let says = c.in-Ok.ensures.framed.says in
     let other : (head_of bs).width ≡ b.width → ⊥ =
-    λ wide. c.if-checked-symbol-width.true (ap (λ (x : Checked). x.head.width) says ∙ wide ∙ sym c.symbol-width.ensures) in
+    λ wide. c.if-checked-symbol_width.true (ap (λ (x : Checked). x.head.width) says ∙ wide ∙ sym c.symbol_width.ensures) in
     record {
       refusal = other_refusal b laws bs small old old right other;
       block = tt;
@@ -50,10 +50,10 @@ returns-then-out-count g c =
     let laws = g.met.A.Arithmetic.strings in
     let bs = c.args.bytes.now in
     let old = c.args.out.now in
-    let small = λ (n : ℕ). (c.type-inv.bytes n).fits in
+    let small = λ (n : ℕ). (c.type_inv.bytes n).fits in
     let right : frame_fault bs ≡ None = sym c.in-Ok.ensures.fault in
     let head : c.in-Ok.checked.head ≡ head_of bs = ap (λ (x : Checked). x.head) c.in-Ok.ensures.framed.says in
-    let wide : (head_of bs).width ≡ b.width = ap (λ (h : Head). h.width) (sym head) ∙ c.if-checked-symbol-width.false ∙ c.symbol-width.ensures in
+    let wide : (head_of bs).width ≡ b.width = ap (λ (h : Head). h.width) (sym head) ∙ c.if-checked-symbol_width.false ∙ c.symbol_width.ensures in
     let short : length old < symbol_count (head_of bs).shape = subst (λ (h : Head). length old < symbol_count h.shape) head c.if-out-count.true in
     record {
       refusal = short_refusal b laws bs small old old right wide short;
@@ -62,12 +62,12 @@ returns-then-out-count g c =
       unchanged = refl;
     }
 
-pub read-block-requires : goal.read-block-requires
-read-block-requires g c =
+pub read_block-requires : goal.read_block-requires
+read_block-requires g c =
     let b = g.A.Arithmetic.bytes in
     let bs = c.args.bytes.now in
     let head : c.in-Ok.checked.head ≡ head_of bs = ap (λ (x : Checked). x.head) c.in-Ok.ensures.framed.says in
-    let wide : c.in-Ok.checked.head.width ≡ b.width = c.if-checked-symbol-width.false ∙ c.symbol-width.ensures in
+    let wide : c.in-Ok.checked.head.width ≡ b.width = c.if-checked-symbol_width.false ∙ c.symbol_width.ensures in
     let begins = c.in-Ok.ensures.framed.begins in
     let long : length bs ≡ 4 * word_count (head_of bs) + length begins.1.0 =
     ap length begins.1.1 ∙ length-append (frame (head_of bs) (data_of bs)) begins.1.0 ∙ ap (λ n. n + length begins.1.0) (length_frame (head_of bs) (data_of bs) begins.0) in
@@ -85,15 +85,15 @@ returns g c =
     let laws = g.met.A.Arithmetic.strings in
     let bs = c.args.bytes.now in
     let old = c.args.out.now in
-    let new = c.read-block.new.out in
-    let small = λ (n : ℕ). (c.type-inv.bytes n).fits in
+    let new = c.read_block.new.out in
+    let small = λ (n : ℕ). (c.type_inv.bytes n).fits in
     let right : frame_fault bs ≡ None = sym c.in-Ok.ensures.fault in
     let all = c.in-Ok.ensures.framed.says in
     let head : c.in-Ok.checked.head ≡ head_of bs = ap (λ (x : Checked). x.head) all in
-    let wide : (head_of bs).width ≡ b.width = ap (λ (h : Head). h.width) (sym head) ∙ c.if-checked-symbol-width.false ∙ c.symbol-width.ensures in
+    let wide : (head_of bs).width ≡ b.width = ap (λ (h : Head). h.width) (sym head) ∙ c.if-checked-symbol_width.false ∙ c.symbol_width.ensures in
     let room : symbol_count (head_of bs).shape ≤ length old = subst (λ (h : Head). symbol_count h.shape ≤ length old) head c.if-out-count.false in
     let laid : new ≡ block_in b bs (symbol_count (head_of bs).shape) ++ drop (symbol_count (head_of bs).shape) old =
-    subst (λ (h : Head). new ≡ block_in b bs (symbol_count h.shape) ++ drop (symbol_count h.shape) old) head c.read-block.ensures in
+    subst (λ (h : Head). new ≡ block_in b bs (symbol_count h.shape) ++ drop (symbol_count h.shape) old) head c.read_block.ensures in
     let f : Found = record { slot = c.in-Ok.checked.head.slot; shape = c.in-Ok.checked.head.shape; words = c.in-Ok.checked.words } in
     let says : f ≡ found_as b (head_of bs).slot (head_of bs).shape =
     ap (λ (x : Checked). record { slot = x.head.slot; shape = x.head.shape; words = x.words }) all

@@ -10,9 +10,9 @@ loop-i-preserved g c =
     let bs = c.args.bytes.now in
     let old = c.args.out.now in
     let i = c.loop-i.i in
-    let x = c.symbol-at.result in
+    let x = c.symbol_at.result in
     let more : block_in b bs i ++ x ∷ [] ≡ block_in b bs (i + 1) =
-    ap (λ (y : g.row.A-Sym.Denot). block_in b bs i ++ y ∷ []) c.symbol-at.ensures ∙ sym (map-range_with_len_more (symbol_in b bs) 0 i i (omega arith)) in
+    ap (λ (y : g.row.A-Sym.Denot). block_in b bs i ++ y ∷ []) c.symbol_at.ensures ∙ sym (map-range_with_len_more (symbol_in b bs) 0 i i (omega arith)) in
     ap (λ (l : List g.row.A-Sym.Denot). set l i x) c.loop-i.invariant
     ∙ over_more (block_in b bs i) old i x (length-map-range_with_len (symbol_in b bs) 0 i) (omega arith)
     ∙ ap (λ (l : List g.row.A-Sym.Denot). l ++ drop (i + 1) old) more

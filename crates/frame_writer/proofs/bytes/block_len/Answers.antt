@@ -6,6 +6,6 @@ pub returns : goal.returns
 returns g c =
     let b = g.A.Arithmetic.bytes in
     record {
-      value = rw c.symbol-width.ensures (sym (length_joined b.write b.width g.met.A.Arithmetic.strings.long c.args.block.now));
+      value = rw c.symbol_width.ensures (sym (length_joined b.write b.width g.met.A.Arithmetic.strings.long c.args.block.now));
       bound = search rules;
     }

@@ -7,4 +7,4 @@ pub returns : goal.returns
 returns g c =
     let n = c.min-carried.result in
     let top : bit_or 48 n ≡ 48 + n = or_shifted 3 4 n (omega arith) in
-    omega (arith, c.from-be-bytes.ensures, c.min-carried.ensures, c.block-byte.ensures, c.block-byte-2.ensures, c.block-byte-3.ensures)
+    omega (arith, c.from_be_bytes.ensures, c.min-carried.ensures, c.block_byte.ensures, c.block_byte-2.ensures, c.block_byte-3.ensures)

@@ -24,8 +24,8 @@ module _ {S : Type 0} (b : Bytes S) (laws : ByteLaws b) (slot : ℕ) (x : BlockS
   words_are : (n : ℕ) → n ≡ count_of_data (length (flat_map b.write block)) → 3 + n ≡ words_of b slot x
   words_are n is = ap (λ k. 3 + k) is ∙ ap (λ k. 3 + count_of_data k) (lawful_block b laws slot x block within).long
 
-pub data-count-words-requires : goal.data-count-words-requires
-data-count-words-requires g c =
+pub data_count-words-requires : goal.data_count-words-requires
+data_count-words-requires g c =
     small_block g.A.Arithmetic.bytes g.met.A.Arithmetic.strings c.args.slot c.args.shape c.args.block.now
     (record { limits = sym c.if-outside.ensures; long = c.if-block-size.false })
 
@@ -38,7 +38,7 @@ returns-then-out-words g c =
     let block = c.args.block.now in
     let m = length c.args.out.now in
     let within : Within slot x block = record { limits = sym c.if-outside.ensures; long = c.if-block-size.false } in
-    let words = words_are b laws slot x block within c.data-count-words.result c.data-count-words.ensures.value in
+    let words = words_are b laws slot x block within c.data_count-words.result c.data_count-words.ensures.value in
     let short : ltb m (4 * words_of b slot x) ≡ true = lt-ltb m (4 * words_of b slot x) (rw words at c.if-out-words.true) in
     record {
       refusal = sym (last_test b laws slot x block within m true short);
@@ -49,8 +49,8 @@ returns-then-out-words g c =
       unchanged = refl;
     }
 
-pub write-words-requires : goal.write-words-requires
-write-words-requires g c =
+pub write_words-requires : goal.write_words-requires
+write_words-requires g c =
     let b = g.A.Arithmetic.bytes in
     let laws = g.met.A.Arithmetic.strings in
     let slot = c.args.slot in
@@ -59,7 +59,7 @@ write-words-requires g c =
     let within : Within slot x block = record { limits = sym c.if-outside.ensures; long = c.if-block-size.false } in
     record {
       size = small_block b laws slot x block within;
-      lawful = rw c.symbol-width-width.ensures (lawful_block b laws slot x block within);
+      lawful = rw c.symbol_width-width.ensures (lawful_block b laws slot x block within);
       room = omega arith;
     }
 
@@ -72,9 +72,9 @@ returns g c =
     let block = c.args.block.now in
     let m = length c.args.out.now in
     let within : Within slot x block = record { limits = sym c.if-outside.ensures; long = c.if-block-size.false } in
-    let words = words_are b laws slot x block within c.data-count-words.result c.data-count-words.ensures.value in
+    let words = words_are b laws slot x block within c.data_count-words.result c.data_count-words.ensures.value in
     let room : ltb m (4 * words_of b slot x) ≡ false = le-ltb m (4 * words_of b slot x) (rw words at c.if-out-words.false) in
-    let written = rw c.symbol-width-width.ensures at c.write-words.ensures in
+    let written = rw c.symbol_width-width.ensures at c.write_words.ensures in
     record {
       refusal = sym (last_test b laws slot x block within m false room);
       words = words;

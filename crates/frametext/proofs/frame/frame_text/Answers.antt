@@ -7,5 +7,5 @@ loop-i-init c = c.new-text.ensures.bytes ∙ frame_none
 
 pub loop-i-preserved : goal.loop-i-preserved
 loop-i-preserved c =
-    frame_more c.args.bytes.now (string_bytes c.loop-i.text) (string_bytes c.push-word.new.text) c.loop-i.i c.word-at.result
-    c.word-at.ensures c.loop-i.invariant c.in-ok-push-word.ensures
+    frame_more c.args.bytes.now (string_bytes c.loop-i.text) (string_bytes c.push_word.new.text) c.loop-i.i c.word_at.result
+    c.word_at.ensures c.loop-i.invariant c.in_ok-push_word.ensures

@@ -17,12 +17,12 @@ take_most ns m n k long is = elim (cases_lt n m) [
 pub returns : goal.returns
 returns c =
     let w = c.args.word in
-    let text = string_bytes c.in-ok-text.text in
+    let text = string_bytes c.in_ok-text.text in
     let n : 1 + c.min.result - 1 ≡ min (bits 27 24 w) 3 = omega (arith, c.min.ensures, c.bits-count.ensures) in
-    let carried : take (1 + c.min.result - 1) (drop 1 c.to-be-bytes-four.result) ≡ data_in w =
-    ap (λ (l : List ℕ). take (1 + c.min.result - 1) (drop 1 l)) c.to-be-bytes-four.ensures
+    let carried : take (1 + c.min.result - 1) (drop 1 c.to_be_bytes-four.result) ≡ data_in w =
+    ap (λ (l : List ℕ). take (1 + c.min.result - 1) (drop 1 l)) c.to_be_bytes-four.ensures
     ∙ take_most (drop 1 (word_bytes w)) 3 (bits 27 24 w) (1 + c.min.result - 1) refl n in
     let start : text ≡ codes "data " ++ (decimal (bits 27 24 w) ++ codes " bytes ") =
-    c.in-ok-text.ensures.ok ∙ ap (λ (n : ℕ). codes "data " ++ (decimal n ++ codes " bytes ")) c.bits-count.ensures in
-    c.in-ok-write-bytes.ensures ∙ ap (λ (l : List ℕ). text ++ flat_map byte_text l) carried
+    c.in_ok-text.ensures.ok ∙ ap (λ (n : ℕ). codes "data " ++ (decimal n ++ codes " bytes ")) c.bits-count.ensures in
+    c.in_ok-write_bytes.ensures ∙ ap (λ (l : List ℕ). text ++ flat_map byte_text l) carried
     ∙ ap (λ (l : List ℕ). l ++ flat_map byte_text (data_in w)) start

@@ -5,15 +5,15 @@ use Rattle.hextext.specs.Digits.{all_digits}
 use Rattle.hextext.proofs.Checks.{digits_turn}
 use Rattle.hextext.proofs.digits.is_hex.Goals as goal
 
-pub returns-then-not-is-digit : goal.returns-then-not-is-digit
-returns-then-not-is-digit c =
+pub returns-then-not-is_digit : goal.returns-then-not-is_digit
+returns-then-not-is_digit c =
     let cs = c.args.text.now in
-    let fails = digits_turn cs c.loop-c.c-index false c.loop-c-test.true (sym c.if-not-is-digit.ensures) c.loop-c.invariant in
+    let fails = digits_turn cs c.loop-c.c-index false c.loop-c-test.true (sym c.if-not-is_digit.ensures) c.loop-c.invariant in
     sym (and_right (eqb (length cs % 2) 0) (all_digits cs) fails)
 
 pub loop-c-preserved : goal.loop-c-preserved
 loop-c-preserved c =
-    sym (digits_turn c.args.text.now c.loop-c.c-index true c.loop-c-test.true (sym c.if-not-is-digit.ensures) c.loop-c.invariant)
+    sym (digits_turn c.args.text.now c.loop-c.c-index true c.loop-c-test.true (sym c.if-not-is_digit.ensures) c.loop-c.invariant)
 
 pub returns : goal.returns
 returns c =

@@ -8,8 +8,8 @@ use Rattle.hextext.proofs.Sizes.{width_le}
 use Rattle.hextext.proofs.Texts.{read_more, symbol_read}
 use Rattle.hextext.proofs.read.read_symbol.Goals as goal
 
-pub byte-value-requires : goal.byte-value-requires
-byte-value-requires g c =
+pub byte_value-requires : goal.byte_value-requires
+byte_value-requires g c =
     record {
       high = digit_at c.args.text.now _ c.requires.digits (omega arith);
       low = digit_at c.args.text.now _ c.requires.digits (omega arith);
@@ -25,7 +25,7 @@ loop-i-preserved g c =
     let digits : byte_text c.byte_value.result ≡ get_or (drop s text) (2 * i) 0 ∷ get_or (drop s text) (2 * i + 1) 0 ∷ [] =
     rw (get_or-drop s text (2 * i) 0, get_or-drop s text (2 * i + 1) 0, place) c.byte_value.ensures in (
       length-set c.loop-i.four i c.byte_value.result ∙ c.loop-i.invariant.0,
-      All-set (λ n. n < 256) c.loop-i.four i c.byte_value.result c.byte_value.type-inv c.loop-i.invariant.1,
+      All-set (λ n. n < 256) c.loop-i.four i c.byte_value.result c.byte_value.type_inv c.loop-i.invariant.1,
       read_more c.loop-i.four (drop s text) i c.byte_value.result room (omega (arith, length-drop s text)) digits c.loop-i.invariant.2,
     )
 
@@ -35,5 +35,5 @@ returns g c =
     let end : c.loop-i.i ≡ b.width = omega arith in
     let same : flat_map byte_text (take b.width c.loop-i.four) ≡ take (2 * b.width) (drop c.args.start c.args.text.now) =
     rw end at c.loop-i.invariant.2 in
-    symbol_read b g.met.A.Arithmetic.strings c.loop-i.four _ c.from-bytes.result c.loop-i.invariant.0 c.loop-i.invariant.1
-    c.from-bytes.ensures same
+    symbol_read b g.met.A.Arithmetic.strings c.loop-i.four _ c.from_bytes.result c.loop-i.invariant.0 c.loop-i.invariant.1
+    c.from_bytes.ensures same

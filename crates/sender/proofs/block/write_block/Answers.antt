@@ -13,7 +13,7 @@ returns g c =
     let cs = g.C.Code.coefficients code in
     let l = c.args.symbols in
     let f = symbol_of_parity o x cs l c.args.history.now c.args.packet.now in
-    let done = simp (sub-zero) at (rw c.copy-from-slice.ensures.after at c.write-parities.ensures) in
+    let done = simp (sub-zero) at (rw c.copy_from_slice.ensures.after at c.write_parities.ensures) in
     let within : length c.args.packet.now ≤ length c.args.out.now = omega (arith, add-mul x.sources x.parities l) in
-    written c.args.packet.now (parities_of o x cs l c.args.history.now c.args.packet.now) c.args.out.now c.write-parities.new.out
+    written c.args.packet.now (parities_of o x cs l c.args.history.now c.args.packet.now) c.args.out.now c.write_parities.new.out
     (x.parities * l) within (length-map-range_with_len f 0 (x.parities * l)) done

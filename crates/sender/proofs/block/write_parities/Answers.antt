@@ -15,8 +15,8 @@ loop-n-preserved g c =
     let x = g.C.Code.shape code in
     let f = symbol_of_parity g.A.Arithmetic.operations x (g.C.Code.coefficients code) c.args.symbols c.args.history.now c.args.packet.now in
     let test : c.loop-n.n < x.parities * c.args.symbols = rw c.parities.ensures at c.loop-n-test.true in
-    fill_more f c.loop-n.out c.args.out.now (length c.args.packet.now) c.loop-n.n c.parity-symbol.result
-    (omega arith) c.parity-symbol.ensures c.loop-n.invariant
+    fill_more f c.loop-n.out c.args.out.now (length c.args.packet.now) c.loop-n.n c.parity_symbol.result
+    (omega arith) c.parity_symbol.ensures c.loop-n.invariant
 
 pub returns : goal.returns
 returns g c =

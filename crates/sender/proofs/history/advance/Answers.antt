@@ -13,5 +13,5 @@ pub returns : goal.returns
 returns g c =
     let short : length c.args.packet.now ≤ c.args.kept = elim c.requires.whole [ inl none ↦ omega arith | inr h ↦ h ] in
     simp sub-zero
-    (advanced c.args.history.now c.args.packet.now c.rotate-left.new.self c.copy-from-slice.new.self c.args.kept
-    c.requires.within short (simp sub-zero at c.rotate-left.ensures.after) c.copy-from-slice.ensures.after)
+    (advanced c.args.history.now c.args.packet.now c.rotate_left.new.self c.copy_from_slice.new.self c.args.kept
+    c.requires.within short (simp sub-zero at c.rotate_left.ensures.after) c.copy_from_slice.ensures.after)

@@ -11,7 +11,7 @@ loop-age-preserved g c =
     let x = g.C.Code.shape code in
     let past = recent o.symbols.zero x c.args.symbols c.args.history.now c.args.packet.now in
     let f = sum_of_age o x (g.C.Code.coefficients code) past c.args.parity c.args.at in
-    sum_more o.symbols c.loop-age.age f c.loop-age.sum _ _ c.loop-age.invariant c.age-sum.ensures c.add-sum.ensures
+    sum_more o.symbols c.loop-age.age f c.loop-age.sum _ _ c.loop-age.invariant c.age_sum.ensures c.add-sum.ensures
 
 pub returns : goal.returns
 returns g c =
@@ -22,5 +22,5 @@ returns g c =
     let f = sum_of_age o x (g.C.Code.coefficients code) past c.args.parity c.args.at in
     let end : c.loop-age.age ≡ x.memory = omega arith in
     let before = rw end at c.loop-age.invariant in
-    let next = rw c.memory-oldest.ensures at c.age-sum-2.ensures in
+    let next = rw c.memory-oldest.ensures at c.age_sum-2.ensures in
     sum_more o.symbols x.memory f c.loop-age.sum _ _ before next c.add.ensures

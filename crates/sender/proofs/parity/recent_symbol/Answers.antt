@@ -11,8 +11,8 @@ bounds-packet-sub g c =
     let x = g.C.Code.shape c.args.code.now in
     omega (arith, below x.sources c.args.symbols c.args.sub c.args.at c.requires.place.1 c.requires.place.2)
 
-pub offset-bounds-packet-sub : goal.offset-bounds-packet-sub
-offset-bounds-packet-sub g c = let h = bounds-packet-sub g c in omega arith
+pub offset_bounds-packet-sub : goal.offset_bounds-packet-sub
+offset_bounds-packet-sub g c = let h = bounds-packet-sub g c in omega arith
 
 pub returns-then-age-eq0 : goal.returns-then-age-eq0
 returns-then-age-eq0 g c =
@@ -31,8 +31,8 @@ bounds-history-back g c =
           (omega arith) c.requires.place.0 c.requires.place.1 c.requires.place.2,
     ))
 
-pub offset-bounds-history-back : goal.offset-bounds-history-back
-offset-bounds-history-back g c = let h = bounds-history-back g c in omega arith
+pub offset_bounds-history-back : goal.offset_bounds-history-back
+offset_bounds-history-back g c = let h = bounds-history-back g c in omega arith
 
 pub returns : goal.returns
 returns g c =

@@ -12,13 +12,13 @@ returns g c =
     let slot = c.args.slot in
     let shape = c.args.shape in
     let block = c.args.block.now in
-    let text = string_bytes c.in-ok-text.text in
+    let text = string_bytes c.in_ok-text.text in
     let words = words_at_front b g.met.A.Arithmetic.strings slot shape block c.requires.within c.write.new.out
     (drop (length (frame_of b slot shape block)) c.args.bytes.now) c.in-Ok.words c.in-Ok.ensures.written c.in-Ok.ensures.words in
-    let said : c.as-str.result.now ≡ text_of_read_back (words_of b slot shape) true = search rules in
+    let said : c.as_str.result.now ≡ text_of_read_back (words_of b slot shape) true = search rules in
     record {
-      shown = c.in-ok-push-str.ensures.bytes ∙ ap (λ (t : List ℕ). text ++ t) said
-          ∙ ap (λ (t : List ℕ). t ++ text_of_read_back (words_of b slot shape) true) (c.in-ok-text.ensures ∙ ap text_of_frame words);
+      shown = c.in_ok-push_str.ensures.bytes ∙ ap (λ (t : List ℕ). text ++ t) said
+          ∙ ap (λ (t : List ℕ). t ++ text_of_read_back (words_of b slot shape) true) (c.in_ok-text.ensures ∙ ap text_of_frame words);
       written = c.in-Ok.ensures.written;
       read = search rules;
     }

@@ -39,15 +39,15 @@ loop-rest-preserved g c =
     let step = rw (inv.0, inv.1) at answer.answers in
     let shown = string_bytes c.in-Ok.shown in
     let out = string_bytes c.loop-rest.out in
-    let turned = turn o b x cs l from first all c.loop-rest.history c.answer-line.new.history c.loop-rest.sender.next line (lines_of after) (lines_of rest) out shown
+    let turned = turn o b x cs l from first all c.loop-rest.history c.answer_line.new.history c.loop-rest.sender.next line (lines_of after) (lines_of rest) out shown
     (lines_cut rest line after some c.cut.ensures.first c.cut.ensures.rest) step inv.2 in
-    let pushed : string_bytes c.push-line.new.text ≡ out ++ (shown ++ (10 ∷ [])) =
-    c.in-ok-push-line.ensures ∙ ap (λ (t : List ℕ). out ++ (t ++ (10 ∷ []))) c.as-str.ensures.value in (
+    let pushed : string_bytes c.push_line.new.text ≡ out ++ (shown ++ (10 ∷ [])) =
+    c.in_ok-push_line.ensures ∙ ap (λ (t : List ℕ). out ++ (t ++ (10 ∷ []))) c.as_str.ensures.value in (
       answer.code ∙ inv.0,
       answer.symbols ∙ inv.1,
       λ more next.
           subst (λ (t : List ℕ). Sent o b x cs l from first all (t ++ more)) (sym pushed)
-          (turned more (subst (λ (n : ℕ). Sent o b x cs l c.answer-line.new.history n (lines_of after) more) answer.next next)),
+          (turned more (subst (λ (n : ℕ). Sent o b x cs l c.answer_line.new.history n (lines_of after) more) answer.next next)),
     )
 
 pub returns-in-Err : goal.returns-in-Err
@@ -70,16 +70,16 @@ returns-in-Err g c =
     let error = c.in-Err.error in
     let slot = c.loop-rest.sender.next in
     let was = c.loop-rest.history in
-    let now = c.answer-line.new.history in
+    let now = c.answer_line.new.history in
     let of_code = subst (λ (k : PlanCode). Answers (string_bytes {Z = Global}) o b (shape_of k) (coefficients_of g.Coef.Sum.sum g.Coef.Field.product k) c.loop-rest.sender.symbols slot line was now (Err error))
     inv.0 c.in-Err.ensures.answers in
     let wrong = subst (λ (n : ℕ). Answers (string_bytes {Z = Global}) o b x cs n slot line was now (Err error)) inv.1 of_code in
-    let number : c.from-number.result ≡ c.loop-rest.sender.next = c.from-number.ensures ∙ c.next-slot.ensures in
-    IfOk-weaker c.end-run.result _ (λ s. Sent o b x cs l from first all (string_bytes s))
+    let number : c.from-number.result ≡ c.loop-rest.sender.next = c.from-number.ensures ∙ c.next_slot.ensures in
+    IfOk-weaker c.end_run.result _ (λ s. Sent o b x cs l from first all (string_bytes s))
     (λ s e. break_off o b x cs l from first all (string_bytes {Z = Global}) was now slot line (lines_of after) (lines_of rest)
     out (string_bytes s) error (lines_cut rest line after some c.cut.ensures.first c.cut.ensures.rest) wrong
     (subst (λ (n : ℕ). Ends error (n + 2) out (string_bytes s)) number e) inv.2)
-    c.end-run.ensures
+    c.end_run.ensures
 
 pub returns : goal.returns
 returns g c =

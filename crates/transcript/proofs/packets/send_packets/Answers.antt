@@ -24,8 +24,8 @@ sizes b m α l d w n memory width symbols =
     ∙ ap (λ k. packet_size (plan_shape b m α) l + k * l) (one_parity b m α) ∙ ap (λ k. packet_size (plan_shape b m α) l + k) (one-mul l)) in
     (packet, ap₂ ◌*◌ (sym memory) packet, ap₂ ◌+◌ packet symbols ∙ block)
 
-pub answer-lines-requires : goal.answer-lines-requires
-answer-lines-requires g c =
+pub answer_lines-requires : goal.answer_lines-requires
+answer_lines-requires g c =
     let plan = c.args.plan.now in
     let b = plan.burst in
     let m = plan.width in
@@ -38,8 +38,8 @@ answer-lines-requires g c =
     let all = sizes b m α plan.symbols c.deadline.result c.width.result c.symbols-symbols.result memory c.width.ensures c.symbols-symbols.ensures in
     record {
       fit = ap unfit shape ∙ plan_fits b m α plan.widths.0 plan.widths.1;
-      reaches = ap length (c.as-mut-slice.ensures.value ∙ c.in-ok-history.ensures) ∙ length-replicate _ _ ∙ all.1 ∙ sym (ap₂ history_size shape symbols);
-      room = ap length (c.as-mut-slice-2.ensures.value ∙ c.in-ok-block.ensures) ∙ length-replicate _ _ ∙ all.2 ∙ sym (ap₂ block_size shape symbols);
+      reaches = ap length (c.as_mut_slice.ensures.value ∙ c.in_ok-history.ensures) ∙ length-replicate _ _ ∙ all.1 ∙ sym (ap₂ history_size shape symbols);
+      room = ap length (c.as_mut_slice-2.ensures.value ∙ c.in_ok-block.ensures) ∙ length-replicate _ _ ∙ all.2 ∙ sym (ap₂ block_size shape symbols);
       size = all.0 ∙ sym (ap₂ packet_size shape symbols);
     }
 
@@ -60,7 +60,7 @@ returns g c =
     ap (coefficients_of g.Coef.Sum.sum g.Coef.Field.product) made.0
     ∙ code_coefficients g.Coef.Sum.sum g.Coef.Field.product b m α c.code.result c.code.ensures.parts
     ∙ ap₂ (λ (s : Sums g.A.Coef.Denot) (p : Products g.A.Coef.Denot). plan_coefficients s p b m α) (sym g.met.A.Arithmetic.coefficients) (sym g.met.A.Arithmetic.products) in
-    let history = c.as-mut-slice.ensures.value ∙ c.in-ok-history.ensures ∙ ap (λ (n : ℕ). replicate n o.symbols.zero) all.1 in
-    IfOk-weaker c.answer-lines.result _ (λ s. SentBy o g.A.Arithmetic.bytes b m α plan.symbols (lines_of c.args.text.now) (string_bytes s))
+    let history = c.as_mut_slice.ensures.value ∙ c.in_ok-history.ensures ∙ ap (λ (n : ℕ). replicate n o.symbols.zero) all.1 in
+    IfOk-weaker c.answer_lines.result _ (λ s. SentBy o g.A.Arithmetic.bytes b m α plan.symbols (lines_of c.args.text.now) (string_bytes s))
     (λ s e. resent o g.A.Arithmetic.bytes (lines_of c.args.text.now) (string_bytes s) shape coefficients symbols history made.2 e)
-    c.answer-lines.ensures
+    c.answer_lines.ensures

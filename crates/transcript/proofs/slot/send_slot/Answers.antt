@@ -19,16 +19,16 @@ returns g c =
     let parities = parities_of g.A.Arithmetic.operations x cs l c.args.history.now packet in
     let b = g.A.Arithmetic.bytes in
     let sent = c.in-Ok.ensures in
-    let text : IfOk c.slot-text.result (λ s. string_bytes s ≡ text_of_slot b c.next-slot-slot.result packet (take (length out - length packet) (drop (length packet) out))) =
-    c.slot-text.ensures in
+    let text : IfOk c.slot_text.result (λ s. string_bytes s ≡ text_of_slot b c.next_slot-slot.result packet (take (length out - length packet) (drop (length packet) out))) =
+    c.slot_text.ensures in
     let many = length-map-range_with_len (symbol_of_parity g.A.Arithmetic.operations x cs l c.args.history.now packet) 0 (x.parities * l) in
     let room : length old ≡ length (packet ++ parities) =
     omega (arith, length-append packet parities, many, c.requires.room, c.requires.whole, add-mul x.sources x.parities l) in
     let same : length out ≡ length old = c.send.auto.out in
     let shown = behind_packet packet parities old out (length out) sent.block room (same ∙ room) in
     record {
-      shown = IfOk-weaker c.slot-text.result _ (λ s. string_bytes s ≡ text_of_slot b sender.next packet parities)
-          (λ s e. e ∙ rw (c.next-slot-slot.ensures, shown) refl) text;
+      shown = IfOk-weaker c.slot_text.result _ (λ s. string_bytes s ≡ text_of_slot b sender.next packet parities)
+          (λ s e. e ∙ rw (c.next_slot-slot.ensures, shown) refl) text;
       history = sent.history;
       code = sent.code.0;
       symbols = sent.code.1;

@@ -5,5 +5,5 @@ use Rattle.transcript.proofs.text.zeros.Goals as goal
 
 pub returns : goal.returns
 returns g c =
-    c.in-ok-resize.ensures.items
-    ∙ rw (c.new-symbols.ensures.items, c.new-symbols.ensures.len, sub-zero, take_all c.args.count [] zero-le, c.no-terms.ensures) refl
+    c.in_ok-resize.ensures.items
+    ∙ rw (c.new-symbols.ensures.items, c.new-symbols.ensures.len, sub-zero, take_all c.args.count [] zero-le, c.no_terms.ensures) refl

@@ -7,25 +7,25 @@ use Rattle.transcript.specs.Transcript.{Transcript}
 use Rattle.transcript.proofs.Runs.{nothing_run, unplanned_run, planned_run}
 use Rattle.transcript.proofs.whole.transcript.Goals as goal
 
-pub returns-then-is-empty : goal.returns-then-is-empty
-returns-then-is-empty c =
+pub returns-then-is_empty : goal.returns-then-is_empty
+returns-then-is_empty c =
     let text = c.args.text.now in
     IfOk-weaker c.unplanned.result _ (λ s. Transcript (lines_of text) (string_bytes s))
-    (λ s e. nothing_run text (string_bytes s) (eqb-true (length text) 0 (sym c.if-is-empty.ensures)) e) c.unplanned.ensures
+    (λ s e. nothing_run text (string_bytes s) (eqb-true (length text) 0 (sym c.if-is_empty.ensures)) e) c.unplanned.ensures
 
 pub returns-in-Err : goal.returns-in-Err
 returns-in-Err c =
     let text = c.args.text.now in
     IfOk-weaker c.unplanned-in-Err.result _ (λ s. Transcript (lines_of text) (string_bytes s))
-    (λ s e. unplanned_run text c.cut.result.0.now c.cut.result.1.now (some_left text c.if-is-empty.ensures)
+    (λ s e. unplanned_run text c.cut.result.0.now c.cut.result.1.now (some_left text c.if-is_empty.ensures)
     c.cut.ensures.first c.cut.ensures.rest (string_bytes s) c.in-Err.why c.in-Err.ensures.refusal e) c.unplanned-in-Err.ensures
 
-pub returns-in-ok-push-str : goal.returns-in-ok-push-str
-returns-in-ok-push-str c =
+pub returns-in_ok-push_str : goal.returns-in_ok-push_str
+returns-in_ok-push_str c =
     let text = c.args.text.now in
     let plan = c.in-Ok.plan in
-    planned_run text c.cut.result.0.now c.cut.result.1.now (some_left text c.if-is-empty.ensures)
-    c.cut.ensures.first c.cut.ensures.rest (string_bytes c.in-ok-out.out) (string_bytes c.in-ok-sent.sent) (string_bytes c.push-str.new.self)
+    planned_run text c.cut.result.0.now c.cut.result.1.now (some_left text c.if-is_empty.ensures)
+    c.cut.ensures.first c.cut.ensures.rest (string_bytes c.in_ok-out.out) (string_bytes c.in_ok-sent.sent) (string_bytes c.push_str.new.self)
     plan.burst plan.width plan.stretch plan.symbols plan.arithmetic c.in-Ok.ensures.refusal c.in-Ok.ensures.made
-    c.in-ok-sent.ensures c.in-ok-out.ensures
-    (c.in-ok-push-str.ensures.bytes ∙ ap (λ (t : List ℕ). string_bytes c.in-ok-out.out ++ t) c.as-str.ensures.value)
+    c.in_ok-sent.ensures c.in_ok-out.ensures
+    (c.in_ok-push_str.ensures.bytes ∙ ap (λ (t : List ℕ). string_bytes c.in_ok-out.out ++ t) c.as_str.ensures.value)

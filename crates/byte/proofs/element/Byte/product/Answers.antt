@@ -12,7 +12,7 @@ loop-step-init c = by_bits_all c.value-doubled.result c.value-bits.result
 
 pub loop-step-preserved : goal.loop-step-preserved
 loop-step-preserved c =
-    let i = c.loop-step.-step in
+    let i = c.loop-step._step in
     let a = c.loop-step.doubled in
     let b = c.loop-step.bits in
     let left : ℕ → ℕ = λ d. by_bits (8 - (i + 1)) d (b / 2) in
@@ -31,7 +31,7 @@ pub returns : goal.returns
 returns c =
     let whole =
     c.new.ensures
-    ∙ sym (by_bits_none c.loop-step.-step c.loop-step.sum c.loop-step.doubled c.loop-step.bits (omega arith))
+    ∙ sym (by_bits_none c.loop-step._step c.loop-step.sum c.loop-step.doubled c.loop-step.bits (omega arith))
     ∙ c.loop-step.invariant
     ∙ ap₂ product c.value-doubled.ensures c.value-bits.ensures in
     record {

@@ -6,4 +6,4 @@ use Rattle.byte.proofs.element.Byte.product.Given as goal
 -- what is summed up, with the product of what is left, is the whole product
 abbrev pub invariant-loop-step : goal.invariant-loop-step
 invariant-loop-step l =
-    bit_xor l.sum (by_bits (8 - l.-step) l.doubled l.bits) ≡ product l.initial.doubled l.initial.bits
+    bit_xor l.sum (by_bits (8 - l._step) l.doubled l.bits) ≡ product l.initial.doubled l.initial.bits

@@ -6,4 +6,4 @@ use Rattle.byte.proofs.field.ByteField.one.Goals as goal
 pub returns : goal.returns
 returns c =
     let one = is_byte c.new.result 1 c.new.ensures in
-    record { value = one; not-zero = λ p. byte_product_laws.one_not_zero (sym one ∙ p) }
+    record { value = one; not_zero = λ p. byte_product_laws.one_not_zero (sym one ∙ p) }

@@ -8,5 +8,5 @@ returns c =
     let front = take 4 ns in
     let value : c.new.result.value ≡ get_or front 0 0 * 16777216 + get_or front 1 0 * 65536 + get_or front 2 0 * 256 + get_or front 3 0 =
     rw (get_or-take 4 ns 0 0 (lit< tt), get_or-take 4 ns 1 0 (lit< tt), get_or-take 4 ns 2 0 (lit< tt), get_or-take 4 ns 3 0 (lit< tt))
-    (c.new.ensures ∙ c.from-be-bytes.ensures) in
+    (c.new.ensures ∙ c.from_be_bytes.ensures) in
     is_word c.new.result _ value
