@@ -25,7 +25,7 @@ pub(crate) fn answer_line<A: Arithmetic>(
     requires reaches { length history.old ≡ history_size (shape_of sender.old.code) sender.old.symbols }
     requires room { length block.old ≡ block_size (shape_of sender.old.code) sender.old.symbols }
     requires size { size ≡ packet_size (shape_of sender.old.code) sender.old.symbols }
-    ensures answers { Answers string_bytes A.Arithmetic.operations A.Arithmetic.bytes (shape_of sender.old.code) (coefficients_of Coef-as-Sum.sum Coef-as-Field.product sender.old.code) sender.old.symbols sender.old.next line.now history.old history.new result }
+    ensures answers { Answers string_bytes A.Arithmetic.operations A.Arithmetic.bytes (shape_of sender.old.code) (coefficients_of A.Coef.Sum.sum A.Coef.Field.product sender.old.code) sender.old.symbols sender.old.next line.now history.old history.new result }
     ensures code { sender.new.code ≡ sender.old.code }
     ensures symbols { sender.new.symbols ≡ sender.old.symbols }
     ensures next { OnOk result (sender.new.next ≡ sender.old.next + 1) }

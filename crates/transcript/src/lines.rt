@@ -48,7 +48,7 @@ pub(crate) fn answer_lines<A: Arithmetic>(
     requires reaches { length history.old ≡ history_size (shape_of sender.old.code) sender.old.symbols }
     requires room { length block.old ≡ block_size (shape_of sender.old.code) sender.old.symbols }
     requires size { size ≡ packet_size (shape_of sender.old.code) sender.old.symbols }
-    ensures { IfOk result (λ s. Sent A.Arithmetic.operations A.Arithmetic.bytes (shape_of sender.old.code) (coefficients_of Coef-as-Sum.sum Coef-as-Field.product sender.old.code) sender.old.symbols history.old sender.old.next (lines_of text.now) (string_bytes s)) }
+    ensures { IfOk result (λ s. Sent A.Arithmetic.operations A.Arithmetic.bytes (shape_of sender.old.code) (coefficients_of A.Coef.Sum.sum A.Coef.Field.product sender.old.code) sender.old.symbols history.old sender.old.next (lines_of text.now) (string_bytes s)) }
 {
     let mut out = String::new(heap);
     let mut rest = text;

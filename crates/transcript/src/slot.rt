@@ -19,7 +19,7 @@ pub(crate) fn send_slot<A: Arithmetic>(
     packet: &[A::Sym],
 ) -> Result<String, AllocError>
     requires { Ready (shape_of sender.old.code) sender.old.symbols sender.old.next (length history.old) (length packet.now) (length block.old) }
-    ensures shown { IfOk result (λ s. string_bytes s ≡ text_of_slot A.Arithmetic.bytes sender.old.next packet.now (parities_of A.Arithmetic.operations (shape_of sender.old.code) (coefficients_of Coef-as-Sum.sum Coef-as-Field.product sender.old.code) sender.old.symbols history.old packet.now)) }
+    ensures shown { IfOk result (λ s. string_bytes s ≡ text_of_slot A.Arithmetic.bytes sender.old.next packet.now (parities_of A.Arithmetic.operations (shape_of sender.old.code) (coefficients_of A.Coef.Sum.sum A.Coef.Field.product sender.old.code) sender.old.symbols history.old packet.now)) }
     ensures history { history.new ≡ history_after (shape_of sender.old.code) sender.old.symbols history.old packet.now }
     ensures code { sender.new.code ≡ sender.old.code }
     ensures symbols { sender.new.symbols ≡ sender.old.symbols }

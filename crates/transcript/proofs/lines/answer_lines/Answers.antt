@@ -25,7 +25,7 @@ loop-rest-preserved g c =
     let b = g.A.Arithmetic.bytes in
     let sender = c.args.sender.now in
     let x = shape_of sender.code in
-    let cs = coefficients_of g.Coef.Sum.sum g.Coef.Field.product sender.code in
+    let cs = coefficients_of g.A.Coef.Sum.sum g.A.Coef.Field.product sender.code in
     let l = sender.symbols in
     let from = c.args.history.now in
     let first = sender.next in
@@ -42,7 +42,7 @@ loop-rest-preserved g c =
     let turned = turn o b x cs l from first all c.loop-rest.history c.answer_line.new.history c.loop-rest.sender.next line (lines_of after) (lines_of rest) out shown
     (lines_cut rest line after some c.cut.ensures.first c.cut.ensures.rest) step inv.2 in
     let pushed : string_bytes c.push_line.new.text ≡ out ++ (shown ++ (10 ∷ [])) =
-    c.in_ok-push_line.ensures ∙ ap (λ (t : List ℕ). out ++ (t ++ (10 ∷ []))) c.as_str.ensures.value in (
+    c.in_ok-push_line-in-Ok.ensures ∙ ap (λ (t : List ℕ). out ++ (t ++ (10 ∷ []))) c.as_str.ensures.value in (
       answer.code ∙ inv.0,
       answer.symbols ∙ inv.1,
       λ more next.
@@ -56,7 +56,7 @@ returns-in-Err g c =
     let b = g.A.Arithmetic.bytes in
     let sender = c.args.sender.now in
     let x = shape_of sender.code in
-    let cs = coefficients_of g.Coef.Sum.sum g.Coef.Field.product sender.code in
+    let cs = coefficients_of g.A.Coef.Sum.sum g.A.Coef.Field.product sender.code in
     let l = sender.symbols in
     let from = c.args.history.now in
     let first = sender.next in
@@ -71,7 +71,7 @@ returns-in-Err g c =
     let slot = c.loop-rest.sender.next in
     let was = c.loop-rest.history in
     let now = c.answer_line.new.history in
-    let of_code = subst (λ (k : PlanCode). Answers (string_bytes {Z = Global}) o b (shape_of k) (coefficients_of g.Coef.Sum.sum g.Coef.Field.product k) c.loop-rest.sender.symbols slot line was now (Err error))
+    let of_code = subst (λ (k : PlanCode). Answers (string_bytes {Z = Global}) o b (shape_of k) (coefficients_of g.A.Coef.Sum.sum g.A.Coef.Field.product k) c.loop-rest.sender.symbols slot line was now (Err error))
     inv.0 c.in-Err.ensures.answers in
     let wrong = subst (λ (n : ℕ). Answers (string_bytes {Z = Global}) o b x cs n slot line was now (Err error)) inv.1 of_code in
     let number : c.from-number.result ≡ c.loop-rest.sender.next = c.from-number.ensures ∙ c.next_slot.ensures in
@@ -87,6 +87,6 @@ returns g c =
     let rest = c.loop-rest.rest.now in
     let none = nil_from_length rest (eqb-true (length rest) 0 (sym c.loop-rest-test.ensures)) in
     done g.A.Arithmetic.operations g.A.Arithmetic.bytes (shape_of sender.code)
-    (coefficients_of g.Coef.Sum.sum g.Coef.Field.product sender.code) sender.symbols
+    (coefficients_of g.A.Coef.Sum.sum g.A.Coef.Field.product sender.code) sender.symbols
     c.args.history.now sender.next (lines_of c.args.text.now) c.loop-rest.history c.loop-rest.sender.next
     (string_bytes c.loop-rest.out) (lines_of rest) (ap lines_of none) c.loop-rest.invariant.2

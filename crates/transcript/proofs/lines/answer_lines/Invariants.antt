@@ -8,7 +8,7 @@ abbrev pub invariant-loop-rest : goal.invariant-loop-rest
 invariant-loop-rest g l =
     (l.sender.code ≡ l.initial.sender.code) × (l.sender.symbols ≡ l.initial.sender.symbols)
     × Turned g.A.Arithmetic.operations g.A.Arithmetic.bytes (shape_of l.initial.sender.code)
-    (coefficients_of g.Coef.Sum.sum g.Coef.Field.product l.initial.sender.code) l.initial.sender.symbols
+    (coefficients_of g.A.Coef.Sum.sum g.A.Coef.Field.product l.initial.sender.code) l.initial.sender.symbols
     l.initial.history l.initial.sender.next (lines_of l.text) l.history l.sender.next (lines_of l.rest) (string_bytes l.out)
 
 abbrev pub decreases-loop-rest : goal.decreases-loop-rest

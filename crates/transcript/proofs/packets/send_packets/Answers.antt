@@ -56,10 +56,10 @@ returns g c =
     let memory : (plan_shape b m α).memory ≡ c.deadline.result =
     ap (λ (x : Shape). x.memory) (sym c.code.ensures.shape) ∙ c.code.ensures.memory ∙ sym c.deadline.ensures in
     let all = sizes b m α plan.symbols c.deadline.result c.width.result c.symbols-symbols.result memory c.width.ensures c.symbols-symbols.ensures in
-    let coefficients : coefficients_of g.Coef.Sum.sum g.Coef.Field.product c.in-Ok.sender.code ≡ plan_coefficients o.coefficients o.products b m α =
-    ap (coefficients_of g.Coef.Sum.sum g.Coef.Field.product) made.0
-    ∙ code_coefficients g.Coef.Sum.sum g.Coef.Field.product b m α c.code.result c.code.ensures.parts
-    ∙ ap₂ (λ (s : Sums g.A.Coef.Denot) (p : Products g.A.Coef.Denot). plan_coefficients s p b m α) (sym g.met.A.Arithmetic.coefficients) (sym g.met.A.Arithmetic.products) in
+    let coefficients : coefficients_of g.A.Coef.Sum.sum g.A.Coef.Field.product c.in-Ok.sender.code ≡ plan_coefficients o.coefficients o.products b m α =
+    ap (coefficients_of g.A.Coef.Sum.sum g.A.Coef.Field.product) made.0
+    ∙ code_coefficients g.A.Coef.Sum.sum g.A.Coef.Field.product b m α c.code.result c.code.ensures.parts
+    ∙ ap₂ (λ (s : Sums g.row.A-Coef.Denot) (p : Products g.row.A-Coef.Denot). plan_coefficients s p b m α) (sym g.met.A.Arithmetic.coefficients) (sym g.met.A.Arithmetic.products) in
     let history = c.as_mut_slice.ensures.value ∙ c.in_ok-history.ensures ∙ ap (λ (n : ℕ). replicate n o.symbols.zero) all.1 in
     IfOk-weaker c.answer_lines.result _ (λ s. SentBy o g.A.Arithmetic.bytes b m α plan.symbols (lines_of c.args.text.now) (string_bytes s))
     (λ s e. resent o g.A.Arithmetic.bytes (lines_of c.args.text.now) (string_bytes s) shape coefficients symbols history made.2 e)

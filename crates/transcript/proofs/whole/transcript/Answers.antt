@@ -20,12 +20,12 @@ returns-in-Err c =
     (λ s e. unplanned_run text c.cut.result.0.now c.cut.result.1.now (some_left text c.if-is_empty.ensures)
     c.cut.ensures.first c.cut.ensures.rest (string_bytes s) c.in-Err.why c.in-Err.ensures.refusal e) c.unplanned-in-Err.ensures
 
-pub returns-in_ok-push_str : goal.returns-in_ok-push_str
-returns-in_ok-push_str c =
+pub returns-in_ok-push_str-in-Ok : goal.returns-in_ok-push_str-in-Ok
+returns-in_ok-push_str-in-Ok c =
     let text = c.args.text.now in
     let plan = c.in-Ok.plan in
     planned_run text c.cut.result.0.now c.cut.result.1.now (some_left text c.if-is_empty.ensures)
-    c.cut.ensures.first c.cut.ensures.rest (string_bytes c.in_ok-out.out) (string_bytes c.in_ok-sent.sent) (string_bytes c.push_str.new.self)
+    c.cut.ensures.first c.cut.ensures.rest (string_bytes c.in_ok-out-in-Ok.out) (string_bytes c.in_ok-sent-in-Ok.sent) (string_bytes c.push_str.new.self)
     plan.burst plan.width plan.stretch plan.symbols plan.arithmetic c.in-Ok.ensures.refusal c.in-Ok.ensures.made
-    c.in_ok-sent.ensures c.in_ok-out.ensures
-    (c.in_ok-push_str.ensures.bytes ∙ ap (λ (t : List ℕ). string_bytes c.in_ok-out.out ++ t) c.as_str.ensures.value)
+    c.in_ok-sent-in-Ok.ensures c.in_ok-out-in-Ok.ensures
+    (c.in_ok-push_str-in-Ok.ensures.bytes ∙ ap (λ (t : List ℕ). string_bytes c.in_ok-out-in-Ok.out ++ t) c.as_str.ensures.value)
