@@ -1,5 +1,5 @@
 -- Sums grow by one term at a time. Assumes nothing.
-use Rattle.std.proofs.Common.{◌≡◌, ℕ, ◌+◌, refl, add-one}
+use Rattle.std.proofs.Common.{◌≡◌, ℕ, ◌+◌, add-one}
 use Rattle.arithmetic.specs.Operations.{Sums}
 use Rattle.arithmetic.specs.Totals.{sum_below}
 

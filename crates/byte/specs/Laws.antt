@@ -1,6 +1,6 @@
 -- The laws of byte arithmetic, from those of numbers below 256.
 use Rattle.std.specs.Prelude.{◌≡◌, ℕ, zero, suc, ◌<◌, List, [], ◌∷◌, length, MatchOption, bit_xor, refl}
-use Rattle.std.proofs.Common.{sym, ◌∙◌, ap, ap₂, subst, inl, inr, arith}
+use Rattle.std.proofs.Common.{sym, ◌∙◌, ap, ap₂, subst, inl, arith}
 use Rattle.std.proofs.lemmas.Bool.{eq-eqb, ne_eqb}
 use Rattle.std.specs.List.{AllByRecursion as All}
 use Rattle.arithmetic.specs.Laws.{SumLaws, ProductLaws, ScaleLaws, ArithmeticLaws, ByteLaws}

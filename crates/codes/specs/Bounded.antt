@@ -1,9 +1,9 @@
 -- No code has a coefficient outside its shape. Assumes nothing.
-use Rattle.std.specs.Prelude.{◌≡◌, ℕ, ◌+◌, ◌*◌, ◌/◌, ◌%◌, ◌^◌, ◌<◌, ◌≤◌, Bool, true, false, cond, ◌&&◌, ◌⊎◌, ◌==◌, nat_eq, nat_lt, refl}
+use Rattle.std.specs.Prelude.{◌≡◌, ℕ, ◌+◌, ◌*◌, ◌/◌, ◌%◌, ◌^◌, ◌<◌, ◌≤◌, true, ◌&&◌, ◌==◌, nat_eq, nat_lt, refl}
 use Rattle.std.proofs.Common.{inl, inr, mul-le-mul_left, mul_comm, div-le_self, arith, rules}
 use Rattle.std.proofs.Math.Nat.{lt_of_mul-lt-mul_left}
 use Rattle.std.proofs.lemmas.Nat.{div-add-mod'}
-use Rattle.std.proofs.lemmas.Bool.{cond_both, cond-false, eqb-true, ltb-true, and_parts}
+use Rattle.std.proofs.lemmas.Bool.{cond_both, eqb-true, ltb-true, and_parts}
 use Rattle.arithmetic.specs.Laws.{SumLaws}
 use Rattle.arithmetic.specs.Operations.{Sums, Products}
 use Rattle.codes.specs.Shape.{Shape, Outside, capped}

@@ -1,7 +1,6 @@
 -- The form of a plan's line, part by part. Assumes nothing.
-use Rattle.std.proofs.Common.{◌≡◌, ℕ, ◌≤◌, Bool, true, false, cond, not, ◌&&◌, ◌||◌, ltb, List, [], ◌∷◌, length, get_or, Some, None, Option, sym, refl, ap, ◌∙◌, arith}
-use Rattle.std.proofs.lemmas.Bool.{and_from, and_left, and_right, cases_cond, cond-true, cond-false, le-ltb, not_from_true, not_from_false, or_from, or_right}
-use Rattle.refusal.specs.declared.Refusal.{Refusal}
+use Rattle.std.proofs.Common.{◌≡◌, ℕ, ◌≤◌, Bool, true, false, cond, not, ◌&&◌, ltb, List, [], ◌∷◌, length, get_or, Some, None, Option, sym, refl, ap, ◌∙◌, arith}
+use Rattle.std.proofs.lemmas.Bool.{and_left, and_right, le-ltb, not_from_true, not_from_false, or_from, or_right}
 use Rattle.refusal.specs.declared.Refusal.TheVariants.{BrokenLine}
 use Rattle.refusal.specs.Order.{refused}
 use Rattle.plan.specs.Numbers.{plan_refusal}

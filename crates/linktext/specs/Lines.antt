@@ -6,8 +6,6 @@ use Rattle.refusal.specs.Number.{number_of}
 use Rattle.arithmetic.specs.Operations.{Bytes}
 use Rattle.codes.specs.Shape.{Shape}
 use Rattle.hextext.specs.Packet.{packet_text}
-use Rattle.plan.specs.Numbers.{short_deadline_of, deadline_of}
-use Rattle.plan.specs.Codes.{plan_shape}
 use Rattle.plan.specs.declared.card.ArithmeticName.{ArithmeticName}
 use Rattle.plan.specs.declared.card.ArithmeticName.TheVariants.{Word, Byte}
 

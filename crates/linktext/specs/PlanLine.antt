@@ -1,8 +1,8 @@
 -- The first line of a link's text: B, m, α, L and a letter, W for word or F for byte arithmetic. Assumes nothing.
-use Rattle.std.specs.Prelude.{◌≡◌, ℕ, Bool, false, cond, not, ◌&&◌, ◌||◌, List, [], ◌∷◌, length, Some, None, Option, ◌==◌, nat_lt}
+use Rattle.std.specs.Prelude.{◌≡◌, ℕ, Bool, false, not, ◌&&◌, ◌||◌, List, [], ◌∷◌, length, Option, ◌==◌, nat_lt}
 use Rattle.refusal.specs.declared.Refusal.{Refusal}
 use Rattle.refusal.specs.declared.Refusal.TheVariants.{BrokenLine}
-use Rattle.refusal.specs.Order.{refused, accepted}
+use Rattle.refusal.specs.Order.{refused}
 use Rattle.plan.specs.Numbers.{plan_refusal}
 use Rattle.plan.specs.declared.card.ArithmeticName.{ArithmeticName}
 use Rattle.plan.specs.declared.card.ArithmeticName.TheVariants.{Word, Byte}

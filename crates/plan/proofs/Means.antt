@@ -4,7 +4,6 @@ use Rattle.std.proofs.lemmas.Nat.{mul-le}
 use Rattle.std.proofs.lemmas.Bool.{cases_eq, cond-true, cond-false, eq-eqb, ne_eqb}
 use Rattle.arithmetic.specs.Operations.{Sums, Products}
 use Rattle.codes.specs.Shape.{Shape, capped}
-use Rattle.codes.specs.Coefficients.{main_shape, main_coefficients, back_shape, back_coefficients, overlay_shape, overlay, spread_shape, spread}
 use Rattle.plan.specs.declared.code.PlanCode.{PlanCode}
 use Rattle.plan.specs.declared.code.PlanCode.TheVariants.{OneDeadline, TwoDeadlines}
 use Rattle.plan.specs.Numbers.{deadline_of}

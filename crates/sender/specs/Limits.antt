@@ -1,5 +1,5 @@
 -- What a sender refuses; the first check that fails decides. Assumes nothing.
-use Rattle.std.specs.Prelude.{ℕ, Bool, not, ◌||◌, Option, ◌==◌, nat_lt}
+use Rattle.std.specs.Prelude.{ℕ, not, Option, ◌==◌, nat_lt}
 use Rattle.refusal.specs.declared.Refusal.{Refusal}
 use Rattle.refusal.specs.declared.Refusal.TheVariants.{OutsideLimits, UnfitShape, ShortMemory, OtherLength, ShortOutput, SlotBelow, SlotAbove}
 use Rattle.refusal.specs.Order.{refused, accepted}

@@ -1,7 +1,7 @@
 -- The sizes that follow from a plan. Assumes nothing.
-use Rattle.std.proofs.Common.{◌≡◌, ℕ, ◌+◌, ◌-◌, ◌*◌, ◌≤◌, Bool, true, false, cond, ◌||◌, eqb, ltb, sym, refl, ap, ◌∙◌, arith}
+use Rattle.std.proofs.Common.{◌≡◌, ℕ, ◌+◌, ◌-◌, ◌≤◌, false, ◌||◌, eqb, ltb, refl, ap, ◌∙◌, arith}
 use Rattle.std.proofs.lemmas.Bool.{cond_both, le-ltb, or_from}
-use Rattle.codes.specs.Shape.{Shape, out_of, unfit}
+use Rattle.codes.specs.Shape.{out_of, unfit}
 use Rattle.codes.specs.Coefficients.{main_shape, back_shape, overlay_shape, spread_shape}
 use Rattle.plan.specs.Codes.{plan_shape}
 

@@ -1,5 +1,5 @@
 -- A run of lines, taken in one after the other. Assumes nothing.
-use Rattle.std.proofs.Common.{◌≡◌, ℕ, ◌+◌, List, [], ◌∷◌, ◌++◌, Some, None, Err, sym, refl, ap, ◌∙◌, subst, append_assoc, append-nil}
+use Rattle.std.proofs.Common.{◌≡◌, ℕ, ◌+◌, List, [], ◌∷◌, ◌++◌, Some, Err, sym, ap, ◌∙◌, subst, append_assoc, append-nil}
 use Rattle.refusal.specs.declared.Refusal.{Refusal}
 use Rattle.hextext.specs.declared.error.ReadError.{ReadError}
 use Rattle.hextext.specs.declared.error.ReadError.TheVariants.{Refused, NoMemory}

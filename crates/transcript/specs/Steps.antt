@@ -1,5 +1,5 @@
 -- One line of a link's packets. Assumes nothing.
-use Rattle.std.specs.Prelude.{◌≡◌, ℕ, ◌+◌, List, [], ◌∷◌, ◌++◌, Some, None, Ok, Err, Result}
+use Rattle.std.specs.Prelude.{◌≡◌, ℕ, List, [], ◌∷◌, ◌++◌, Some, None, Ok, Err, Result}
 use Rattle.arithmetic.specs.Operations.{Operations, Bytes}
 use Rattle.codes.specs.Shape.{Shape, packet_size}
 use Rattle.hextext.specs.declared.error.ReadError.{ReadError}

@@ -3,7 +3,6 @@ use Rattle.std.specs.Prelude.{◌≡◌, ℕ, List, [], ◌∷◌, ◌++◌, rep
 use Rattle.refusal.specs.declared.Refusal.{Refusal}
 use Rattle.refusal.specs.declared.Refusal.TheVariants.{BrokenLine}
 use Rattle.arithmetic.specs.Operations.{Operations, Bytes}
-use Rattle.codes.specs.Shape.{Shape}
 use Rattle.plan.specs.Numbers.{short_deadline_of, deadline_of}
 use Rattle.plan.specs.Codes.{plan_shape, plan_coefficients}
 use Rattle.plan.specs.declared.card.ArithmeticName.{ArithmeticName}

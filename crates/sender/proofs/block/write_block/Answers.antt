@@ -1,4 +1,4 @@
-use Rattle.std.proofs.Common.{◌+◌, ◌*◌, ◌≤◌, length, add-mul, arith}
+use Rattle.std.proofs.Common.{◌*◌, ◌≤◌, length, add-mul, arith}
 use native.Mathlib.Nat.{sub-zero}
 use Rattle.std.proofs.lemmas.List.FromFn.{length-map-range_with_len}
 use Rattle.sender.specs.Block.{symbol_of_parity, parities_of}

@@ -1,4 +1,4 @@
-use Rattle.std.proofs.Common.{◌≡◌, ◌+◌, ◌*◌, ◌<◌, length, arith}
+use Rattle.std.proofs.Common.{◌≡◌, ◌*◌, ◌<◌, length, arith}
 use Rattle.sender.specs.Block.{symbol_of_parity}
 use Rattle.fills.proofs.Fill.{fill_none, fill_more}
 use Rattle.sender.proofs.block.write_parities.Goals as goal

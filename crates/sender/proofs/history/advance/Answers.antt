@@ -1,4 +1,4 @@
-use Rattle.std.proofs.Common.{◌≡◌, ◌≤◌, [], ◌++◌, length, drop, sym, refl, inl, inr, arith}
+use Rattle.std.proofs.Common.{◌≤◌, length, refl, inl, inr, arith}
 use native.Mathlib.Nat.{sub-zero}
 use Rattle.std.proofs.lemmas.List.{drop_all}
 use Rattle.sender.proofs.Writes.{advanced}

@@ -1,4 +1,4 @@
-use Rattle.std.proofs.Common.{◌≡◌, refl}
+use Rattle.std.proofs.Common.{◌≡◌}
 use Rattle.codes.specs.Parity.{term}
 use Rattle.sender.specs.Block.{recent}
 use Rattle.arithmetic.proofs.TotalLaws.{sum_more}

@@ -1,9 +1,8 @@
-use Rattle.std.proofs.Common.{◌≡◌, ℕ, ◌+◌, ◌-◌, ◌*◌, ◌<◌, length, get_or, sym, ◌∙◌, arith}
+use Rattle.std.proofs.Common.{◌+◌, ◌-◌, ◌*◌, ◌<◌, length, sym, ◌∙◌, arith}
 use Rattle.std.proofs.lemmas.List.{get_or_read}
 use Rattle.std.proofs.lemmas.Bool.{cond-true, cond-false, eq-eqb, ne_eqb}
 use Rattle.codes.proofs.Places.{below}
 use Rattle.sender.proofs.Places.{below_history}
-use Rattle.sender.proofs.parity.recent_symbol.Given as given
 use Rattle.sender.proofs.parity.recent_symbol.Goals as goal
 
 pub bounds-packet-sub : goal.bounds-packet-sub

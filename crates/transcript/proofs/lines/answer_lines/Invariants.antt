@@ -1,4 +1,4 @@
-use Rattle.std.proofs.Common.{◌≡◌, ℕ, List, ◌++◌, length, string_bytes}
+use Rattle.std.proofs.Common.{◌≡◌, length, string_bytes}
 use Rattle.plan.specs.Codes.{shape_of, coefficients_of}
 use Rattle.linktext.specs.Fields.{lines_of}
 use Rattle.transcript.proofs.Turns.{Turned}

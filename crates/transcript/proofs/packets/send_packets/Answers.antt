@@ -1,14 +1,12 @@
-use Rattle.std.proofs.Common.{◌≡◌, ℕ, ◌+◌, ◌*◌, List, length, replicate, string_bytes, sym, refl, ap, ◌∙◌, ap₂, add-mul, one-mul, arith}
+use Rattle.std.proofs.Common.{◌≡◌, ℕ, ◌+◌, ◌*◌, length, replicate, string_bytes, sym, ap, ◌∙◌, ap₂, add-mul, one-mul}
 use lib.ListN.{length-replicate}
 use Rattle.std.proofs.lemmas.Result.{IfOk-weaker}
 use Rattle.arithmetic.specs.Operations.{Sums, Products}
 use Rattle.codes.specs.Shape.{Shape, packet_size, block_size, unfit}
-use Rattle.plan.specs.declared.code.PlanCode.{PlanCode}
 use Rattle.plan.specs.Codes.{plan_shape, plan_coefficients, shape_of, coefficients_of}
 use Rattle.plan.proofs.Means.{code_coefficients}
 use Rattle.sender.specs.Block.{history_size}
 use Rattle.linktext.specs.Fields.{lines_of}
-use Rattle.transcript.specs.Sending.{Sent}
 use Rattle.transcript.specs.Transcript.{SentBy}
 use Rattle.transcript.proofs.PlanSizes.{sources_are, one_parity, plan_fits}
 use Rattle.transcript.proofs.Turns.{resent}

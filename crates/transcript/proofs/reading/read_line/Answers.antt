@@ -1,4 +1,4 @@
-use Rattle.std.proofs.Common.{◌≡◌, length, vec_items, vec_len, sym, ◌∙◌}
+use Rattle.std.proofs.Common.{◌≡◌, vec_items, vec_len, sym, ◌∙◌}
 use Rattle.transcript.proofs.LineForm.{line_other, line_whole}
 use Rattle.transcript.proofs.reading.read_line.Goals as goal
 

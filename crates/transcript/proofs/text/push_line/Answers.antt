@@ -1,4 +1,4 @@
-use Rattle.std.proofs.Common.{◌≡◌, ℕ, List, [], ◌∷◌, ◌++◌, string_bytes, ap, ◌∙◌, append_assoc, lit<}
+use Rattle.std.proofs.Common.{ℕ, List, [], ◌∷◌, ◌++◌, string_bytes, ap, ◌∙◌, append_assoc, lit<}
 use Rattle.transcript.proofs.text.push_line.Goals as goal
 
 pub returns : goal.returns

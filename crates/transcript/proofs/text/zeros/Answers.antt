@@ -1,4 +1,4 @@
-use Rattle.std.proofs.Common.{◌≡◌, ◌-◌, [], ◌++◌, take, replicate, refl, ap, ◌∙◌, zero-le}
+use Rattle.std.proofs.Common.{[], refl, ◌∙◌, zero-le}
 use native.Mathlib.Nat.{sub-zero}
 use Rattle.std.proofs.lemmas.List.{take_all}
 use Rattle.transcript.proofs.text.zeros.Goals as goal
