@@ -1,6 +1,6 @@
 -- The laws that every arithmetic shows.
 use Rattle.std.specs.Prelude.{◌≡◌, ℕ, ◌<◌, ◌⊎◌, List, length, MatchOption, ◌≢◌}
-use Rattle.std.specs.List.{AllByRecursion as All}
+use Rattle.std.specs.List.{AllByRecursion}
 use Rattle.arithmetic.specs.Operations.{Sums, Products, Operations, Bytes}
 
 -- sums are associative and commutative, with a zero and a negative for each element; equality can be decided
@@ -39,6 +39,6 @@ pub record ArithmeticLaws {F S : Type 0} (o : Operations F S) : Type 0 where
 pub record ByteLaws {S : Type 0} (b : Bytes S) : Type 0 where
   pub widths : (b.width ≡ 1) ⊎ (b.width ≡ 4)
   pub long : (x : S) → length (b.write x) ≡ b.width
-  pub small : (x : S) → All (λ n. n < 256) (b.write x)
+  pub small : (x : S) → AllByRecursion (λ n. n < 256) (b.write x)
   pub back : (x : S) → b.read (b.write x) ≡ x
-  pub forth : (ns : List ℕ) → length ns ≡ b.width → All (λ n. n < 256) ns → b.write (b.read ns) ≡ ns
+  pub forth : (ns : List ℕ) → length ns ≡ b.width → AllByRecursion (λ n. n < 256) ns → b.write (b.read ns) ≡ ns

@@ -2,7 +2,7 @@
 use Rattle.std.specs.Prelude.{◌≡◌, ℕ, zero, suc, ◌<◌, List, [], ◌∷◌, length, MatchOption, bit_xor, refl}
 use Rattle.std.proofs.Common.{sym, ◌∙◌, ap, ap₂, subst, inl, arith}
 use Rattle.std.proofs.lemmas.Bool.{eq-eqb, ne_eqb}
-use Rattle.std.specs.List.{AllByRecursion as All}
+use Rattle.std.specs.List.{AllByRecursion}
 use Rattle.arithmetic.specs.Laws.{SumLaws, ProductLaws, ScaleLaws, ArithmeticLaws, ByteLaws}
 use Rattle.galois.specs.Product.{product, reciprocal}
 use Rattle.galois.proofs.Linear.{product_left, product_right}
@@ -57,7 +57,7 @@ pub byte_laws : ArithmeticLaws byte_operations
 byte_laws = record { coefficients = byte_sum_laws; products = byte_product_laws; symbols = byte_sum_laws; scaling = byte_scale_laws }
 
 -- a string of one byte, written again as it was read
-rewritten : (ns : List ℕ) → length ns ≡ 1 → All (λ n. n < 256) ns → byte_strings.write (byte_strings.read ns) ≡ ns
+rewritten : (ns : List ℕ) → length ns ≡ 1 → AllByRecursion (λ n. n < 256) ns → byte_strings.write (byte_strings.read ns) ≡ ns
 rewritten [] h s = absurd (omega arith)
 rewritten (n ∷ []) h s = ap (λ (m : ℕ). m ∷ []) (byte_value n s.0)
 rewritten (n ∷ (m ∷ ns)) h s = absurd (omega arith)

@@ -1,6 +1,6 @@
 -- Texts grow piece by piece, as they are written and as they are read. Assumes nothing.
 use Rattle.std.proofs.Common.{◌≡◌, ℕ, ◌+◌, ◌*◌, ◌<◌, ◌≤◌, cond, List, [], ◌∷◌, ◌++◌, length, get_or, take, drop, set, is_ok, Ok, Err, Result, sym, ap, ◌∙◌, add-mul, arith, take-add}
-use Rattle.std.specs.List.{flat_map, AllByRecursion as All}
+use Rattle.std.specs.List.{flat_map, AllByRecursion}
 use Rattle.std.proofs.ByRecursion.{All-take}
 use Rattle.std.proofs.lemmas.List.{append_assoc, flat_map_more, length-take-le, take_all, take_at, take_more, take_more_set}
 use Rattle.arithmetic.specs.Operations.{Bytes}
@@ -52,7 +52,7 @@ read_more bytes text i byte room within is old =
 
 module _ {S : Type 0} (b : Bytes S) where
   -- the symbol that is read from its bytes has their text
-  pub symbol_read : ByteLaws b → (four text : List ℕ) (x : S) → length four ≡ 4 → All (λ n. n < 256) four
+  pub symbol_read : ByteLaws b → (four text : List ℕ) (x : S) → length four ≡ 4 → AllByRecursion (λ n. n < 256) four
       → x ≡ b.read (take b.width four) → flat_map byte_text (take b.width four) ≡ text → symbol_text b x ≡ text
   symbol_read laws four text x long small is same =
       let enough : b.width ≤ length four = omega (arith, width_le b.width laws.widths) in

@@ -1,6 +1,6 @@
 -- Pieces of one length, joined one behind the other. Assumes nothing.
 use Rattle.std.proofs.Common.{◌≡◌, ℕ, zero, suc, ◌+◌, ◌-◌, ◌*◌, ◌/◌, ◌<◌, ◌≤◌, List, [], ◌∷◌, length, get_or, sym, ◌∙◌, inl, inr, suc-mul, zero-mul, arith, length-append}
-use Rattle.std.specs.List.{flat_map, AllByRecursion as All}
+use Rattle.std.specs.List.{flat_map, AllByRecursion}
 use Rattle.std.proofs.lemmas.Nat.{div_below}
 use Rattle.std.proofs.ByRecursion.{All-append}
 use Rattle.std.proofs.lemmas.List.{get_or_append_left, get_or-append_right, get_or_past}
@@ -31,6 +31,6 @@ module _ {X A : Type 0} (f : X → List A) (w : ℕ) (long : (x : X) → length 
       elim (cases_lt n (length xs * w)) [ inl h ↦ omega (arith, div_below n w (length xs) some h) | inr h ↦ h ] in
       get_or_past (flat_map f xs) n d (omega (arith, length_joined xs))
 
-pub all_joined : {X A : Type 0} (P : A → Type 0) (f : X → List A) → ((x : X) → All P (f x)) → (xs : List X) → All P (flat_map f xs)
+pub all_joined : {X A : Type 0} (P : A → Type 0) (f : X → List A) → ((x : X) → AllByRecursion P (f x)) → (xs : List X) → AllByRecursion P (flat_map f xs)
 all_joined P f each [] = tt
 all_joined P f each (x ∷ xs) = All-append P (f x) (flat_map f xs) (each x) (all_joined P f each xs)

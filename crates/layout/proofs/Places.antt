@@ -1,6 +1,6 @@
 -- The words that may stand at each place of a frame. Assumes nothing.
 use Rattle.std.proofs.Common.{◌≡◌, ℕ, zero, suc, ◌+◌, ◌-◌, ◌*◌, ◌/◌, ◌%◌, ◌^◌, ◌<◌, ◌≤◌, Bool, true, false, cond, not, eqb, ltb, List, [], ◌∷◌, length, get_or, Some, None, refl, ap, ◌∙◌, arith}
-use Rattle.std.specs.List.{AllByRecursion as All}
+use Rattle.std.specs.List.{AllByRecursion}
 use Rattle.std.proofs.lemmas.List.{get_or_past}
 use Rattle.std.proofs.lemmas.Bool.{eq-eqb, eqb-true, le-ltb, ltb-false, not-false, not_from_true, or_from, or_parts}
 use Rattle.std.proofs.lemmas.Bool.Decides.{nat_tests}
@@ -132,13 +132,13 @@ last_zero (suc (suc zero)) w some tail below = tail
 last_zero (suc (suc (suc c))) w some tail below = absurd (omega arith)
 
 -- what is read from a list of bytes is a byte, behind its end too
-small_at : (ns : List ℕ) → All (λ n. n < 256) ns → (i : ℕ) → get_or ns i 0 < 256
+small_at : (ns : List ℕ) → AllByRecursion (λ n. n < 256) ns → (i : ℕ) → get_or ns i 0 < 256
 small_at [] small i = omega arith
 small_at (n ∷ ns) small zero = small.0
 small_at (n ∷ ns) small (suc i) = small_at ns small.1 i
 
 -- the data word of three bytes, or of those that are left, has no fault, and these are its bytes
-module _ (ns : List ℕ) (small : All (λ n. n < 256) ns) (j : ℕ) where
+module _ (ns : List ℕ) (small : AllByRecursion (λ n. n < 256) ns) (j : ℕ) where
   pub data_bytes : word_bytes (word_of_data ns j)
       ≡ (48 + carried (length ns) j) ∷ get_or ns (3 * j) 0 ∷ get_or ns (3 * j + 1) 0 ∷ get_or ns (3 * j + 2) 0 ∷ []
   data_bytes =

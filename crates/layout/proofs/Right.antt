@@ -1,6 +1,6 @@
 -- A frame has no fault, and says what it was made of. Assumes nothing.
 use Rattle.std.proofs.Common.{◌≡◌, ℕ, zero, suc, ◌+◌, ◌*◌, ◌/◌, ◌%◌, ◌<◌, ◌≤◌, List, [], ◌∷◌, ◌++◌, map, length, get_or, None, sym, refl, ap, ◌∙◌, subst, inl, inr, arith}
-use Rattle.std.specs.List.{range_with_len, AllByRecursion as All}
+use Rattle.std.specs.List.{range_with_len, AllByRecursion}
 use Rattle.std.proofs.lemmas.Nat.{mul-le}
 use Rattle.std.proofs.lemmas.List.FromFn.{length-map-range_with_len, get_or-map-range_with_len}
 use Rattle.std.proofs.ByRecursion.{All-map, All-push}
@@ -39,7 +39,7 @@ use Rattle.layout.proofs.Places.{
 use Rattle.layout.proofs.Strings.{length_words, byte_of_joined, word_at_joined}
 
 -- what holds of everything holds of all of a list
-pub all_of : {X : Type 0} (P : X → Type 0) → ((x : X) → P x) → (xs : List X) → All P xs
+pub all_of : {X : Type 0} (P : X → Type 0) → ((x : X) → P x) → (xs : List X) → AllByRecursion P xs
 all_of P each [] = tt
 all_of P each (x ∷ xs) = (each x, all_of P each xs)
 
@@ -82,7 +82,7 @@ module _ (h : Head) (ns : List ℕ) (lawful : Lawful h ns) where
       get_or_push ws (word_of_count (2 + m)) 0 j (length-map-range_with_len (word_of_data ns) 0 m ∙ last) ∙ ap (λ n. word_of_count (2 + n)) last
 
   -- each is a word of 32 bits
-  words_fit : All (λ w. w < 4294967296) (frame_words h ns)
+  words_fit : AllByRecursion (λ w. w < 4294967296) (frame_words h ns)
   words_fit =
       let m = count_of_data (length ns) in
       let js = range_with_len 0 m in

@@ -1,6 +1,6 @@
 -- Strings of words, as bytes. Assumes nothing.
 use Rattle.std.proofs.Common.{◌≡◌, ℕ, zero, suc, ◌+◌, ◌*◌, ◌/◌, ◌%◌, ◌<◌, ◌≤◌, List, [], ◌++◌, map, length, get_or, take, drop, sym, refl, ap, ◌∙◌, arith, take-add}
-use Rattle.std.specs.List.{range_with_len, flat_map, AllByRecursion as All}
+use Rattle.std.specs.List.{range_with_len, flat_map, AllByRecursion}
 use Rattle.std.proofs.lemmas.List.FromFn.{map-range_with_len_more}
 use Rattle.std.proofs.ByRecursion.{All-get_or}
 use Rattle.std.proofs.lemmas.List.{get_or_append_left, get_or_default, flat_map_more}
@@ -29,7 +29,7 @@ whole w fits =
     omega arith
 
 -- word i of a string of words
-pub word_at_joined : (ws rest : List ℕ) (i : ℕ) → All (λ w. w < 4294967296) ws → i < length ws
+pub word_at_joined : (ws rest : List ℕ) (i : ℕ) → AllByRecursion (λ w. w < 4294967296) ws → i < length ws
     → word_in (flat_map word_bytes ws ++ rest) i ≡ get_or ws i 0
 word_at_joined ws rest i small within =
     let bs = flat_map word_bytes ws ++ rest in

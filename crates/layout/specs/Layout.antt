@@ -1,6 +1,6 @@
 -- What a frame is: words that say the slot, the shape, the block's bytes three by three, and how many words came before. Assumes nothing.
 use Rattle.std.specs.Prelude.{◌≡◌, ℕ, ◌+◌, ◌-◌, ◌*◌, ◌/◌, ◌^◌, ◌<◌, ◌≤◌, min, Bool, true, false, ◌||◌, List, [], ◌∷◌, ◌++◌, map, length, ◌==◌, slice_index}
-use Rattle.std.specs.List.{range_with_len, flat_map, AllByRecursion as All}
+use Rattle.std.specs.List.{range_with_len, flat_map, AllByRecursion}
 use Rattle.codes.specs.Shape.{last_slot, out_of}
 use Rattle.layout.specs.declared.head.BlockShape.{BlockShape}
 use Rattle.layout.specs.declared.head.Head.{Head}
@@ -59,7 +59,7 @@ pub record Lawful (h : Head) (ns : List ℕ) : Type 0 where
   pub shape : outside_shape h.shape ≡ false
   pub width : is_width h.width ≡ true
   pub long : length ns ≡ byte_count h
-  pub small : All (λ n. n < 256) ns
+  pub small : AllByRecursion (λ n. n < 256) ns
 
 -- the bytes begin with the frame of these
 abbrev pub Begins : List ℕ → Head → List ℕ → Type 0

@@ -1,11 +1,10 @@
 -- Words and strings of four bytes correspond one to one. Assumes nothing.
-use Rattle.std.specs.Prelude.{◌≡◌, ℕ, ◌+◌, ◌*◌, ◌/◌, ◌%◌, ◌^◌, ◌<◌, List, [], ◌∷◌, length, get_or, refl}
+use Rattle.std.specs.Prelude.{◌≡◌, ℕ, ◌+◌, ◌*◌, ◌/◌, ◌%◌, ◌^◌, ◌<◌, List, [], ◌∷◌, length, refl}
 use Rattle.std.proofs.Common.{sym, inr, mod-lt, mod-eq_of_lt, arith, lit<}
 use Rattle.std.proofs.lemmas.Nat.{div-add-mod', shr_below, shr-shr}
-use Rattle.std.specs.List.{AllByRecursion as All}
+use Rattle.std.specs.List.{AllByRecursion}
 use Rattle.arithmetic.specs.Laws.{ByteLaws}
 use Rattle.word.specs.declared.element.Word.{Word}
-use Rattle.word.specs.Words.{word, value_of}
 use Rattle.word.specs.Arithmetic.{word_strings, word_write, word_read}
 use Rattle.word.specs.Laws.{is_word}
 
@@ -22,7 +21,7 @@ back x =
     let all = four_digits n (n / 256) (n / 65536) (n / 16777216) (n % 256) (n / 256 % 256) (n / 65536 % 256) (div-add-mod' n 256) third second in
     sym (is_word x (n / 16777216 % 256 * 16777216 + n / 65536 % 256 * 65536 + n / 256 % 256 * 256 + n % 256) (rw top all))
 
-forth : (ns : List ℕ) → length ns ≡ 4 → All (λ n. n < 256) ns → word_write (word_read ns) ≡ ns
+forth : (ns : List ℕ) → length ns ≡ 4 → AllByRecursion (λ n. n < 256) ns → word_write (word_read ns) ≡ ns
 forth [] long small = absurd (omega arith)
 forth (a ∷ []) long small = absurd (omega arith)
 forth (a ∷ b ∷ []) long small = absurd (omega arith)
@@ -36,7 +35,7 @@ forth (a ∷ b ∷ c ∷ d ∷ []) long (sa, (sb, (sc, (sd, _)))) =
     let fourth : n % 256 ≡ d = omega arith in
     rw (first, second, third, fourth) refl
 
-bytes_small : (x : Word) → All (λ n. n < 256) (word_write x)
+bytes_small : (x : Word) → AllByRecursion (λ n. n < 256) (word_write x)
 bytes_small x = (mod-lt _ (lit< tt), (mod-lt _ (lit< tt), (mod-lt _ (lit< tt), (mod-lt _ (lit< tt), tt))))
 
 pub word_string_laws : ByteLaws word_strings
