@@ -1,9 +1,8 @@
 -- What reading answers, case by case. Assumes nothing.
-use Rattle.std.proofs.Common.{◌≡◌, ℕ, ◌<◌, ◌≤◌, Bool, not, eqb, ltb, List, ◌++◌, length, get_or, drop, Some, None, Ok, Option, Result, sym, ap, ◌∙◌, subst, arith}
+use Rattle.std.proofs.Common.{◌≡◌, ℕ, ◌<◌, ◌≤◌, Bool, cond, not, eqb, ltb, List, ◌++◌, length, get_or, drop, Some, None, Ok, Option, Result, sym, ap, ◌∙◌, subst, arith}
 use Rattle.std.proofs.lemmas.List.FromFn.{length-map-range_with_len}
 use Rattle.std.proofs.lemmas.Bool.{eq-eqb, ne_eqb, lt-ltb, le-ltb}
-use Rattle.refusal.specs.declared.Refusal.TheVariants.{OtherShape, ShortOutput}
-use Rattle.refusal.specs.Order.{refused, accepted}
+use Rattle.refusal.specs.declared.Refusal.TheVariants.{ShortOutput}
 use Rattle.arithmetic.specs.Laws.{ByteLaws}
 use Rattle.arithmetic.specs.Operations.{Bytes}
 use Rattle.layout.specs.declared.fault.FrameFault.{FrameFault}
@@ -13,7 +12,7 @@ use Rattle.layout.specs.Bytes.{data_of}
 use Rattle.layout.specs.Faults.{frame_fault, head_of}
 use Rattle.layout.specs.Layout.{Begins, symbol_count}
 use Rattle.frame_reader.specs.declared.error.ReadError.{ReadError}
-use Rattle.frame_reader.specs.declared.error.ReadError.TheVariants.{Frame, Refused}
+use Rattle.frame_reader.specs.declared.error.ReadError.TheVariants.{Frame, OtherWidth, Refused}
 use Rattle.frame_reader.specs.declared.read.Found.{Found}
 use Rattle.layout.specs.Frames.{BeginsWith, words_of}
 use Rattle.frame_reader.specs.Reading.{AcceptsBlocks, LaidOver, ReadAs, block_in, fault_first, found_as, read_refusal, symbol_in}
@@ -26,7 +25,7 @@ module _ {S : Type 0} (b : Bytes S) (laws : ByteLaws b) (bs : List ℕ) (small :
     pub fault_refusal : Some (Frame fault) ≡ read_refusal b.width bs (length old)
     fault_refusal =
         sym (ap (λ (o : Option FrameFault). fault_first o
-        (refused (not (eqb (head_of bs).width b.width)) OtherShape (refused (ltb (length old) (symbol_count (head_of bs).shape)) ShortOutput accepted))) found)
+        (cond (not (eqb (head_of bs).width b.width)) (Some OtherWidth) (cond (ltb (length old) (symbol_count (head_of bs).shape)) (Some (Refused ShortOutput)) None))) found)
 
     pub fault_exactly : (r : Result Found ReadError) → AcceptsBlocks b bs old new r
     fault_exactly r slot x block begins room = never (frame_fault bs) fault found (no_fault b laws bs small slot x block begins)
@@ -34,30 +33,30 @@ module _ {S : Type 0} (b : Bytes S) (laws : ByteLaws b) (bs : List ℕ) (small :
   -- it is not
   module _ (right : frame_fault bs ≡ None) where
     then : read_refusal b.width bs (length old)
-        ≡ fault_first None (refused (not (eqb (head_of bs).width b.width)) OtherShape (refused (ltb (length old) (symbol_count (head_of bs).shape)) ShortOutput accepted))
+        ≡ fault_first None (cond (not (eqb (head_of bs).width b.width)) (Some OtherWidth) (cond (ltb (length old) (symbol_count (head_of bs).shape)) (Some (Refused ShortOutput)) None))
     then =
         ap (λ (o : Option FrameFault). fault_first o
-        (refused (not (eqb (head_of bs).width b.width)) OtherShape (refused (ltb (length old) (symbol_count (head_of bs).shape)) ShortOutput accepted))) right
+        (cond (not (eqb (head_of bs).width b.width)) (Some OtherWidth) (cond (ltb (length old) (symbol_count (head_of bs).shape)) (Some (Refused ShortOutput)) None))) right
 
     -- its symbols are of another width
-    pub other_refusal : ((head_of bs).width ≡ b.width → ⊥) → Some (Refused OtherShape) ≡ read_refusal b.width bs (length old)
+    pub other_refusal : ((head_of bs).width ≡ b.width → ⊥) → Some OtherWidth ≡ read_refusal b.width bs (length old)
     other_refusal other =
-        sym (then ∙ ap (λ (t : Bool). fault_first None (refused (not t) OtherShape (refused (ltb (length old) (symbol_count (head_of bs).shape)) ShortOutput accepted)))
+        sym (then ∙ ap (λ (t : Bool). fault_first None (cond (not t) (Some OtherWidth) (cond (ltb (length old) (symbol_count (head_of bs).shape)) (Some (Refused ShortOutput)) None)))
         (ne_eqb (head_of bs).width b.width other))
 
     pub other_exactly : ((head_of bs).width ≡ b.width → ⊥) → (r : Result Found ReadError) → AcceptsBlocks b bs old new r
     other_exactly other r slot x block begins room = absurd (other (ap (λ (h : Head). h.width) (its_head b laws bs small slot x block begins)))
 
     module _ (wide : (head_of bs).width ≡ b.width) where
-      room_left : read_refusal b.width bs (length old) ≡ fault_first None (refused (ltb (length old) (symbol_count (head_of bs).shape)) ShortOutput accepted)
+      room_left : read_refusal b.width bs (length old) ≡ fault_first None (cond (ltb (length old) (symbol_count (head_of bs).shape)) (Some (Refused ShortOutput)) None)
       room_left =
-          then ∙ ap (λ (t : Bool). fault_first None (refused (not t) OtherShape (refused (ltb (length old) (symbol_count (head_of bs).shape)) ShortOutput accepted)))
+          then ∙ ap (λ (t : Bool). fault_first None (cond (not t) (Some OtherWidth) (cond (ltb (length old) (symbol_count (head_of bs).shape)) (Some (Refused ShortOutput)) None)))
           (eq-eqb (head_of bs).width b.width wide)
 
       -- the output is too short for its block
       pub short_refusal : length old < symbol_count (head_of bs).shape → Some (Refused ShortOutput) ≡ read_refusal b.width bs (length old)
       short_refusal short =
-          sym (room_left ∙ ap (λ (t : Bool). fault_first None (refused t ShortOutput accepted)) (lt-ltb (length old) (symbol_count (head_of bs).shape) short))
+          sym (room_left ∙ ap (λ (t : Bool). fault_first None (cond t (Some (Refused ShortOutput)) None)) (lt-ltb (length old) (symbol_count (head_of bs).shape) short))
 
       pub short_exactly : length old < symbol_count (head_of bs).shape → (r : Result Found ReadError) → AcceptsBlocks b bs old new r
       short_exactly short r slot x block begins room =
@@ -70,7 +69,7 @@ module _ {S : Type 0} (b : Bytes S) (laws : ByteLaws b) (bs : List ℕ) (small :
           (says : f ≡ found_as b (head_of bs).slot (head_of bs).shape) where
         pub refusal_is_none : None ≡ read_refusal b.width bs (length old)
         refusal_is_none =
-            sym (room_left ∙ ap (λ (t : Bool). fault_first None (refused t ShortOutput accepted)) (le-ltb (length old) (symbol_count (head_of bs).shape) room))
+            sym (room_left ∙ ap (λ (t : Bool). fault_first None (cond t (Some (Refused ShortOutput)) None)) (le-ltb (length old) (symbol_count (head_of bs).shape) room))
 
         laid_over : LaidOver (block_in b bs (symbol_count (head_of bs).shape)) old new
         laid_over =

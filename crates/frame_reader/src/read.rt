@@ -57,7 +57,7 @@ pub fn read<A: Arithmetic>(bytes: &[u8], out: &mut [A::Sym]) -> Result<Found, Re
     };
     let shape = checked.head.shape;
     if checked.head.width as usize != A::symbol_width() {
-        return Err(ReadError::Refused(Refusal::OtherShape));
+        return Err(ReadError::OtherWidth);
     }
     let count = ((shape.sources + shape.parities) * shape.symbols) as usize;
     if out.len() < count {

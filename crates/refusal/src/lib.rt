@@ -12,12 +12,10 @@ pub enum Refusal {
     UnfitShape,
     // The history that was lent is too short.
     ShortMemory,
-    // A packet or a coefficient table of another length than its code has, or a block of another than its shape says.
+    // A packet or a coefficient table of another length than its code has.
     OtherLength,
     // The output that was lent is too short.
     ShortOutput,
-    // A frame whose shape is not the one that is expected; for a frame read alone, symbols of another width.
-    OtherShape,
     // A line of text that breaks its form, or no text at all.
     BrokenLine,
     // A slot that the sender has passed already.
@@ -37,7 +35,6 @@ impl Refusal {
             Refusal::ShortMemory => 3,
             Refusal::OtherLength => 4,
             Refusal::ShortOutput => 5,
-            Refusal::OtherShape => 9,
             Refusal::BrokenLine => 10,
             Refusal::SlotBelow => 11,
             Refusal::SlotAbove => 12,

@@ -20,9 +20,6 @@ returns-in-OtherLength c = rw c.in-OtherLength.is refl
 pub returns-in-ShortOutput : goal.returns-in-ShortOutput
 returns-in-ShortOutput c = rw c.in-ShortOutput.is refl
 
-pub returns-in-OtherShape : goal.returns-in-OtherShape
-returns-in-OtherShape c = rw c.in-OtherShape.is refl
-
 pub returns-then-line-eq1-2 : goal.returns-then-line-eq1-2
 returns-then-line-eq1-2 c = rw c.in-BrokenLine.is (sym (cond-true _ _ _ (eq-eqb c.args.line 1 c.if-line-eq1-2.true)))
 
