@@ -1,4 +1,4 @@
-ghost use Rattle.std.specs.Prelude.{◌≡◌, ◌-◌, ◌++◌, take, replicate};
+ghost use Rattle.std.specs.Prelude.{◌≡◌, ℕ, ◌-◌, ◌++◌, take, replicate};
 ghost use Rattle.arithmetic.specs.Operations.{Operations, Bytes};
 ghost use Rattle.arithmetic.specs.Laws.{ArithmeticLaws, ByteLaws};
 
@@ -12,6 +12,8 @@ pub trait Arithmetic {
     type Sym: Sum;
 
     // The bytes of a symbol, 1 or 4.
+    ghost WIDTH: { ℕ };
+
     const WIDTH: usize;
 
     ghost operations: { Operations Self.Coef Self.Sym };
@@ -24,10 +26,13 @@ pub trait Arithmetic {
     fn mark() -> Self::Sym
         ensures { result ≡ operations.mark };
 
-    fn symbol_width() -> usize
-        ensures { result ≡ bytes.width };
+    final fn symbol_width() -> usize
+        ensures { result ≡ bytes.width }
+    {
+        Self::WIDTH
+    }
 
-    // The symbol's bytes first, and zeros behind them.
+    // The symbol's bytes first, and zeros behind them. Always four: no array's length can be the constant, and a slice could come too short.
     fn to_bytes(x: Self::Sym) -> [u8; 4]
         ensures { result ≡ bytes.write x ++ replicate (4 - bytes.width) 0 };
 
@@ -44,4 +49,6 @@ pub trait Arithmetic {
     ghost laws: { ArithmeticLaws operations };
 
     ghost strings: { ByteLaws bytes };
+
+    ghost width: { WIDTH ≡ bytes.width };
 }

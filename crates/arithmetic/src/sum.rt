@@ -15,6 +15,7 @@ pub trait Sum: Copy {
     fn negative(self) -> Self
         ensures { result ≡ sum.negative self };
 
+    // Each element's own `==`: of a bound `Eq` generic code would not know that it tells what is the same.
     fn same(self, other: Self) -> bool
         ensures { Decides result (self ≡ other) };
 

@@ -1,6 +1,7 @@
 ghost use Rattle.std.specs.Prelude.{◌≡◌, ◌<◌};
 
 // An element of the field of 256 elements. The bits are the coefficients of a polynomial, the lowest that of 1.
+// `Word` has the same form. One generic type for both would have to stand below both, and `Field` could then not be implemented for it here.
 #[derive(Clone, Copy, PartialEq, Eq, Debug)]
 pub struct Byte {
     value: u8,

@@ -7,6 +7,7 @@ use crate::element::Byte;
 use arithmetic::field::Field;
 use arithmetic::sum::Sum;
 
+// The sum of words has the same four lines; what is said there of one trait for both holds here.
 impl Sum for Byte {
     ghost sum = { byte_sums };
 
@@ -26,7 +27,7 @@ impl Sum for Byte {
     }
 
     fn same(self, other: Byte) -> bool {
-        self.value() == other.value()
+        self == other
     }
 }
 

@@ -4,6 +4,7 @@ ghost use Rattle.std.specs.Prelude.{refl};
 
 use crate::element::Byte;
 use arithmetic::arithmetic::Arithmetic;
+use arithmetic::field::Field;
 
 // Byte arithmetic: a coefficient scales a symbol by their product.
 pub struct ByteArithmetic;
@@ -12,6 +13,8 @@ impl Arithmetic for ByteArithmetic {
     type Coef = Byte;
 
     type Sym = Byte;
+
+    ghost WIDTH = { 1 };
 
     const WIDTH: usize = 1;
 
@@ -29,16 +32,14 @@ impl Arithmetic for ByteArithmetic {
 
     ghost strings = { byte_string_laws };
 
+    ghost width = { refl };
+
     fn scale(c: Byte, x: Byte) -> Byte {
-        c.product(x)
+        c.times(x)
     }
 
     fn mark() -> Byte {
         Byte::new(1)
-    }
-
-    fn symbol_width() -> usize {
-        Self::WIDTH
     }
 
     fn to_bytes(x: Byte) -> [u8; 4] {

@@ -27,10 +27,9 @@ fn entry(table: Table, k: usize) -> u8
             let column = Byte::new((k % 256) as u8);
             row.times(column).value()
         }
-        Table::Inverses => match Byte::new(((k % 256 + 1) % 256) as u8).inverse() {
-            Some(inverse) => inverse.value(),
-            None => 0,
-        },
+        Table::Inverses => Byte::new(((k % 256 + 1) % 256) as u8)
+            .inverse()
+            .map_or(0, Byte::value),
     }
 }
 
@@ -38,12 +37,10 @@ fn entry(table: Table, k: usize) -> u8
 fn first_wrong(table: Table, entries: &[u8]) -> Option<usize>
     ensures { MatchOption result ((k : ℕ) → k < length entries.now → slice_index entries.now k ≡ entry_of table k) (λ k. slice_index entries.now k ≢ entry_of table k) }
 {
-    for (k, found) in entries.iter().enumerate() {
-        if *found != entry(table, k) {
-            return Some(k);
-        }
-    }
-    None
+    entries
+        .iter()
+        .enumerate()
+        .position(|(k, found)| *found != entry(table, k))
 }
 
 fn compare(rt: &HostRuntime, table: Table, entries: &[u8]) -> io::Result<()> {
@@ -63,6 +60,7 @@ fn main(rt: HostRuntime) -> io::Result<()> {
         eprintln!(rt; "tables.bin has another length")?;
         return Err(io::Error::from(ErrorKind::InvalidData));
     }
-    compare(&rt, Table::Products, &entries[0..PRODUCTS])?;
-    compare(&rt, Table::Inverses, &entries[PRODUCTS..])
+    let (products, inverses) = entries.split_at(PRODUCTS);
+    compare(&rt, Table::Products, products)?;
+    compare(&rt, Table::Inverses, inverses)
 }

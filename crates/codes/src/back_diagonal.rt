@@ -1,4 +1,4 @@
-ghost use Rattle.std.specs.Prelude.{◌≡◌, ◌≤◌, IfOk};
+ghost use Rattle.std.specs.Prelude.{◌≡◌, IfOk};
 ghost use Rattle.std.specs.Result.{result_err};
 ghost use Rattle.refusal.specs.Order.{refused, accepted};
 ghost use Rattle.refusal.specs.declared.Refusal.TheVariants.{OutsideLimits};
@@ -7,6 +7,7 @@ ghost use Rattle.codes.specs.Coefficients.{back_shape, back_coefficients};
 ghost use Rattle.codes.specs.Bounded.{back_bounded};
 
 use crate::code::Code;
+use crate::limits::Sources;
 use crate::step::Step;
 use arithmetic::field::Field;
 use refusal::Refusal;
@@ -14,9 +15,8 @@ use refusal::Refusal;
 // Sub-symbol k goes into the parity k + 1 steps later.
 #[derive(Clone, Copy)]
 pub struct BackDiagonal {
-    width: u32,
+    width: Sources,
     step: Step,
-    ghost ok: { (1 ≤ width) × (width ≤ 8) },
 }
 
 impl BackDiagonal {
@@ -25,10 +25,14 @@ impl BackDiagonal {
         ensures refusal { result_err result ≡ refused (out_of 1 8 width) OutsideLimits accepted }
         ensures made { IfOk result (λ d. (d.width ≡ width) × (d.step ≡ step)) }
     {
-        if width < 1 || width > 8 {
-            return Err(Refusal::OutsideLimits);
-        }
-        Ok(BackDiagonal { width, step })
+        Ok(BackDiagonal::of(Sources::new(width)?, step))
+    }
+
+    pub fn of(width: Sources, step: Step) -> BackDiagonal
+        ensures width { result.width ≡ width }
+        ensures step { result.step ≡ step }
+    {
+        BackDiagonal { width, step }
     }
 }
 
@@ -40,7 +44,7 @@ impl<F: Field> Code<F> for BackDiagonal {
     ghost bounded = { λ code. back_bounded F.Sum.sum F.Field.product code.width code.step.value };
 
     fn sources(&self) -> u32 {
-        self.width
+        self.width.value()
     }
 
     fn parities(&self) -> u32 {
@@ -48,12 +52,15 @@ impl<F: Field> Code<F> for BackDiagonal {
     }
 
     fn memory(&self) -> u32 {
-        self.step.slots().saturating_mul(self.width)
+        self.step.slots().saturating_mul(self.width.value())
     }
 
     fn coefficient(&self, parity: u32, age: u32, sub: u32) -> F {
         let step = u64::from(self.step.slots());
-        if parity == 0 && sub < self.width && u64::from(age) == step * (u64::from(sub) + 1) {
+        if parity == 0
+            && sub < self.width.value()
+            && u64::from(age) == step * (u64::from(sub) + 1)
+        {
             F::one()
         } else {
             F::zero()

@@ -3,6 +3,7 @@
 
 pub mod back_diagonal;
 pub mod code;
+pub mod limits;
 pub mod link;
 pub mod main_diagonal;
 pub mod overlay;

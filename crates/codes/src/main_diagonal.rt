@@ -1,4 +1,4 @@
-ghost use Rattle.std.specs.Prelude.{◌≡◌, ◌≤◌, IfOk};
+ghost use Rattle.std.specs.Prelude.{◌≡◌, IfOk};
 ghost use Rattle.std.specs.Result.{result_err};
 ghost use Rattle.refusal.specs.Order.{refused, accepted};
 ghost use Rattle.refusal.specs.declared.Refusal.TheVariants.{OutsideLimits};
@@ -7,14 +7,14 @@ ghost use Rattle.codes.specs.Coefficients.{main_shape, main_coefficients};
 ghost use Rattle.codes.specs.Bounded.{main_bounded};
 
 use crate::code::Code;
+use crate::limits::Sources;
 use arithmetic::field::Field;
 use refusal::Refusal;
 
 // Sub-symbol k of a packet of m goes into the parity m - k slots later.
 #[derive(Clone, Copy)]
 pub struct MainDiagonal {
-    width: u32,
-    ghost ok: { (1 ≤ width) × (width ≤ 8) },
+    width: Sources,
 }
 
 impl MainDiagonal {
@@ -23,10 +23,13 @@ impl MainDiagonal {
         ensures refusal { result_err result ≡ refused (out_of 1 8 width) OutsideLimits accepted }
         ensures made { IfOk result (λ d. d.width ≡ width) }
     {
-        if width < 1 || width > 8 {
-            return Err(Refusal::OutsideLimits);
-        }
-        Ok(MainDiagonal { width })
+        Ok(MainDiagonal::of(Sources::new(width)?))
+    }
+
+    pub fn of(width: Sources) -> MainDiagonal
+        ensures { result.width ≡ width }
+    {
+        MainDiagonal { width }
     }
 }
 
@@ -38,7 +41,7 @@ impl<F: Field> Code<F> for MainDiagonal {
     ghost bounded = { λ code. main_bounded F.Sum.sum F.Field.product code.width };
 
     fn sources(&self) -> u32 {
-        self.width
+        self.width.value()
     }
 
     fn parities(&self) -> u32 {
@@ -46,11 +49,12 @@ impl<F: Field> Code<F> for MainDiagonal {
     }
 
     fn memory(&self) -> u32 {
-        self.width
+        self.width.value()
     }
 
     fn coefficient(&self, parity: u32, age: u32, sub: u32) -> F {
-        if parity == 0 && sub < self.width && age == self.width - sub {
+        let width = self.width.value();
+        if parity == 0 && sub < width && age == width - sub {
             F::one()
         } else {
             F::zero()

@@ -3,9 +3,10 @@ ghost use Rattle.std.specs.Result.{result_err};
 ghost use Rattle.refusal.specs.Order.{refused, accepted};
 ghost use Rattle.refusal.specs.declared.Refusal.TheVariants.{OutsideLimits};
 
+use crate::limits::Ranged;
 use refusal::Refusal;
 
-// A number of slots to go by, never none: what divides by it needs no test.
+// A number of slots to go by, never none: what divides by it needs no test. A plain type with its own field, by a rule of this project (docs/DECISIONS.md).
 #[derive(Clone, Copy)]
 pub struct Step {
     value: u32,
@@ -28,5 +29,16 @@ impl Step {
         ensures { result ≡ self.value }
     {
         self.value
+    }
+}
+
+// A number from 1 on is a step.
+impl<const HIGH: u32> From<Ranged<1, HIGH>> for Step {
+    ghost from_gives = { λ number step. (step.value ≡ number) × (step.value ≤ HIGH) };
+
+    fn from(number: Ranged<1, HIGH>) -> Step {
+        Step {
+            value: number.value(),
+        }
     }
 }

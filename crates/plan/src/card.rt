@@ -5,6 +5,7 @@ ghost use Rattle.plan.specs.Codes.{CodeOf, shape_of, plan_shape};
 
 use crate::code::PlanCode;
 use codes::back_diagonal::BackDiagonal;
+use codes::limits::{Ranged, Sources, Symbols};
 use codes::main_diagonal::MainDiagonal;
 use codes::overlay::Overlay;
 use codes::spread::Spread;
@@ -20,22 +21,24 @@ pub enum ArithmeticName {
     Byte,
 }
 
+// The losses of a short run, B.
+pub type Burst = Ranged<1, 63>;
+
+// How much longer a long run may be, α.
+pub type Stretch = Ranged<1, 8>;
+
 // A plan: a link for short runs of at most `burst` losses, and for long ones of at most `stretch` times as many.
 #[derive(Clone, Copy)]
 pub struct Plan {
     // B, the losses of a short run.
-    burst: u32,
+    burst: Burst,
     // m, the sub-symbols of a packet: a short run is repaired within m times B slots.
-    width: u32,
+    width: Sources,
     // α, how much longer a long run may be; 1 for a plan with one deadline.
-    stretch: u32,
+    stretch: Stretch,
     // L, the symbols of a sub-symbol.
-    symbols: u32,
+    symbols: Symbols,
     arithmetic: ArithmeticName,
-    ghost bursts: { (1 ≤ burst) × (burst ≤ 63) },
-    ghost widths: { (1 ≤ width) × (width ≤ 8) },
-    ghost stretches: { (1 ≤ stretch) × (stretch ≤ 8) },
-    ghost lengths: { (1 ≤ symbols) × (symbols ≤ 32) },
 }
 
 impl Plan {
@@ -50,49 +53,41 @@ impl Plan {
         ensures refusal { result_err result ≡ plan_refusal burst width stretch symbols }
         ensures made { IfOk result (λ p. (p.burst ≡ burst) × (p.width ≡ width) × (p.stretch ≡ stretch) × (p.symbols ≡ symbols) × (p.arithmetic ≡ arithmetic)) }
     {
-        if burst < 1 || burst > 63 {
-            return Err(Refusal::OutsideLimits);
-        }
-        if width < 1 || width > 8 {
-            return Err(Refusal::OutsideLimits);
-        }
-        if stretch < 1 || stretch > 8 {
-            return Err(Refusal::OutsideLimits);
-        }
-        if symbols < 1 || symbols > 32 {
-            return Err(Refusal::OutsideLimits);
-        }
         Ok(Plan {
-            burst,
-            width,
-            stretch,
-            symbols,
+            burst: Burst::new(burst)?,
+            width: Sources::new(width)?,
+            stretch: Stretch::new(stretch)?,
+            symbols: Symbols::new(symbols)?,
             arithmetic,
         })
     }
 
     pub fn burst(&self) -> u32
-        ensures { result ≡ self.now.burst }
+        ensures value { result ≡ self.now.burst }
+        ensures range { (1 ≤ result) × (result ≤ 63) }
     {
-        self.burst
+        self.burst.value()
     }
 
     pub fn width(&self) -> u32
-        ensures { result ≡ self.now.width }
+        ensures value { result ≡ self.now.width }
+        ensures range { (1 ≤ result) × (result ≤ 8) }
     {
-        self.width
+        self.width.value()
     }
 
     pub fn stretch(&self) -> u32
-        ensures { result ≡ self.now.stretch }
+        ensures value { result ≡ self.now.stretch }
+        ensures range { (1 ≤ result) × (result ≤ 8) }
     {
-        self.stretch
+        self.stretch.value()
     }
 
     pub fn symbols(&self) -> u32
-        ensures { result ≡ self.now.symbols }
+        ensures value { result ≡ self.now.symbols }
+        ensures range { (1 ≤ result) × (result ≤ 32) }
     {
-        self.symbols
+        self.symbols.value()
     }
 
     pub fn arithmetic(&self) -> ArithmeticName
@@ -103,19 +98,22 @@ impl Plan {
 
     // T, the slots after its own within which a packet of a short run is repaired.
     pub fn short_deadline(&self) -> u32
-        ensures { result ≡ short_deadline_of self.now.burst self.now.width }
+        ensures value { result ≡ short_deadline_of self.now.burst self.now.width }
+        ensures bound { result ≤ 504 }
     {
-        self.width * self.burst
+        self.width() * self.burst()
     }
 
     // D, the slots after its own within which every packet is repaired.
     pub fn deadline(&self) -> u32
-        ensures { result ≡ deadline_of self.now.burst self.now.width self.now.stretch }
+        ensures value { result ≡ deadline_of self.now.burst self.now.width self.now.stretch }
+        ensures bound { result ≤ 4095 }
     {
-        if self.stretch == 1 {
+        let stretch = self.stretch();
+        if stretch == 1 {
             self.short_deadline()
         } else {
-            self.stretch * self.short_deadline() + self.burst
+            stretch * self.short_deadline() + self.burst()
         }
     }
 
@@ -125,25 +123,18 @@ impl Plan {
         ensures shape { shape_of result ≡ plan_shape self.now.burst self.now.width self.now.stretch }
         ensures memory { (shape_of result).memory ≡ deadline_of self.now.burst self.now.width self.now.stretch }
     {
-        let Ok(first) = MainDiagonal::new(self.width) else {
-            unreachable()
-        };
-        let Ok(step) = Step::new(self.burst) else {
-            unreachable()
-        };
-        if self.stretch == 1 {
+        let delay = self.width() + 1;
+        let first = MainDiagonal::of(self.width);
+        let step = Step::from(self.burst);
+        let Ok(longer) = Step::new(self.stretch() - 1) else {
+            // α is 1: no run is longer than a short one.
             return PlanCode::OneDeadline(Spread { code: first, step });
-        }
-        let Ok(longer) = Step::new(self.stretch - 1) else {
-            unreachable()
         };
-        let Ok(second) = BackDiagonal::new(self.width, longer) else {
-            unreachable()
-        };
+        let second = BackDiagonal::of(self.width, longer);
         let code = Overlay {
             first,
             second,
-            delay: self.width + 1,
+            delay,
         };
         PlanCode::TwoDeadlines(Spread { code, step })
     }

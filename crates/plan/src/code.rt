@@ -22,6 +22,7 @@ pub enum PlanCode {
     TwoDeadlines(Spread<Overlay<MainDiagonal, BackDiagonal>>),
 }
 
+// Each call asks the case at hand. A `dyn` code would have to be made and handed out by `Plan::code`, which the gate refuses.
 impl<F: Field> Code<F> for PlanCode {
     ghost shape = { shape_of };
 

@@ -3,6 +3,7 @@
 
 pub mod card;
 pub mod code;
+mod name;
 
 pub use card::{ArithmeticName, Plan};
 pub use code::PlanCode;

@@ -7,21 +7,21 @@ ghost use Rattle.refusal.specs.Number.{number_of};
 #[derive(Clone, Copy, PartialEq, Eq, Debug)]
 pub enum Refusal {
     // A number that was handed in lies outside its limits.
-    OutsideLimits,
+    OutsideLimits = 1,
     // A code whose packets have not 1 to 8 sub-symbols, or whose blocks not 1 to 4 parities.
-    UnfitShape,
+    UnfitShape = 2,
     // The history that was lent is too short.
-    ShortMemory,
+    ShortMemory = 3,
     // A packet or a coefficient table of another length than its code has.
-    OtherLength,
+    OtherLength = 4,
     // The output that was lent is too short.
-    ShortOutput,
+    ShortOutput = 5,
     // A line of text that breaks its form, or no text at all.
-    BrokenLine,
+    BrokenLine = 10,
     // A slot that the sender has passed already.
-    SlotBelow,
+    SlotBelow = 11,
     // A slot that the sender has not come to yet.
-    SlotAbove,
+    SlotAbove = 12,
 }
 
 impl Refusal {
@@ -29,15 +29,6 @@ impl Refusal {
     pub fn number(self) -> u8
         ensures { result ≡ number_of self }
     {
-        match self {
-            Refusal::OutsideLimits => 1,
-            Refusal::UnfitShape => 2,
-            Refusal::ShortMemory => 3,
-            Refusal::OtherLength => 4,
-            Refusal::ShortOutput => 5,
-            Refusal::BrokenLine => 10,
-            Refusal::SlotBelow => 11,
-            Refusal::SlotAbove => 12,
-        }
+        self as u8
     }
 }

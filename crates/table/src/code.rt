@@ -14,20 +14,22 @@ impl Code<Byte> for CoefficientTable {
     ghost bounded = { λ t. table_bounded (record { sources = t.sources; parities = t.parities; memory = t.memory }) t.bytes.items };
 
     fn sources(&self) -> u32 {
-        self.sources
+        self.sources.value()
     }
 
     fn parities(&self) -> u32 {
-        self.parities
+        self.parities.value()
     }
 
     fn memory(&self) -> u32 {
-        self.memory
+        self.memory.value()
     }
 
     fn coefficient(&self, parity: u32, age: u32, sub: u32) -> Byte {
-        if parity < self.parities && age <= self.memory && sub < self.sources {
-            let place = (parity * (self.memory + 1) + age) * self.sources + sub;
+        let sources = self.sources.value();
+        let memory = self.memory.value();
+        if parity < self.parities.value() && age <= memory && sub < sources {
+            let place = (parity * (memory + 1) + age) * sources + sub;
             Byte::new(self.bytes[place as usize])
         } else {
             Byte::zero()

@@ -1,19 +1,20 @@
-ghost use Rattle.std.specs.Prelude.{◌≡◌, ◌+◌, ◌*◌, ◌≤◌, IfOk, vec_len};
+ghost use Rattle.std.specs.Prelude.{◌≡◌, ◌+◌, ◌*◌, IfOk, vec_len};
 ghost use Rattle.std.specs.Result.{result_err};
 ghost use Rattle.table.specs.Table.{table_refusal};
 
+use codes::limits::{Parities, Ranged, Sources};
 use refusal::Refusal;
+
+// How many slots back a table may reach, M.
+pub type Memory = Ranged<0, 63>;
 
 // A code whose coefficients were handed in, byte by byte.
 #[derive(Drop)]
 pub struct CoefficientTable {
-    pub(crate) sources: u32,
-    pub(crate) parities: u32,
-    pub(crate) memory: u32,
+    pub(crate) sources: Sources,
+    pub(crate) parities: Parities,
+    pub(crate) memory: Memory,
     pub(crate) bytes: Vec<u8>,
-    ghost narrow: { (1 ≤ sources) × (sources ≤ 8) },
-    ghost few: { (1 ≤ parities) × (parities ≤ 4) },
-    ghost near: { memory ≤ 63 },
     ghost whole: { vec_len bytes ≡ parities * (memory + 1) * sources },
 }
 
@@ -28,16 +29,11 @@ impl CoefficientTable {
         ensures refusal { result_err result ≡ table_refusal (record { sources = sources; parities = parities; memory = memory }) (vec_len bytes) }
         ensures made { IfOk result (λ t. (t.sources ≡ sources) × (t.parities ≡ parities) × (t.memory ≡ memory) × (t.bytes.items ≡ bytes.items)) }
     {
-        if sources < 1 || sources > 8 {
-            return Err(Refusal::OutsideLimits);
-        }
-        if parities < 1 || parities > 4 {
-            return Err(Refusal::OutsideLimits);
-        }
-        if memory > 63 {
-            return Err(Refusal::OutsideLimits);
-        }
-        if bytes.len() != parities as usize * (memory as usize + 1) * sources as usize {
+        let sources = Sources::new(sources)?;
+        let parities = Parities::new(parities)?;
+        let memory = Memory::new(memory)?;
+        let rows = parities.value() * (memory.value() + 1);
+        if bytes.len() != (rows * sources.value()) as usize {
             return Err(Refusal::OtherLength);
         }
         Ok(CoefficientTable {

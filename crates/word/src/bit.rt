@@ -34,12 +34,7 @@ impl Sum for Bit {
     }
 
     fn same(self, other: Bit) -> bool {
-        match (self, other) {
-            (Bit::Off, Bit::Off) => true,
-            (Bit::On, Bit::On) => true,
-            (Bit::Off, Bit::On) => false,
-            (Bit::On, Bit::Off) => false,
-        }
+        self == other
     }
 }
 

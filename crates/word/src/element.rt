@@ -1,6 +1,6 @@
 ghost use Rattle.std.specs.Prelude.{◌≡◌, ◌^◌, ◌<◌};
 
-// A symbol of 32 bits.
+// A symbol of 32 bits. `Byte` has the same form: what is said there of one type for both holds here.
 #[derive(Clone, Copy, PartialEq, Eq, Debug)]
 pub struct Word {
     value: u32,

@@ -15,6 +15,8 @@ impl Arithmetic for WordArithmetic {
 
     type Sym = Word;
 
+    ghost WIDTH = { 4 };
+
     const WIDTH: usize = 4;
 
     ghost operations = { word_operations };
@@ -31,6 +33,8 @@ impl Arithmetic for WordArithmetic {
 
     ghost strings = { word_string_laws };
 
+    ghost width = { refl };
+
     fn scale(c: Bit, x: Word) -> Word {
         match c {
             Bit::Off => Word::new(0),
@@ -40,10 +44,6 @@ impl Arithmetic for WordArithmetic {
 
     fn mark() -> Word {
         Word::new(1)
-    }
-
-    fn symbol_width() -> usize {
-        Self::WIDTH
     }
 
     // Most significant byte first.

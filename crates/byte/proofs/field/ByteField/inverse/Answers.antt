@@ -1,5 +1,5 @@
 use Rattle.std.proofs.Common.{◌≡◌, eqb, Some, None, Option, sym, ap, ◌∙◌, subst, MatchOption}
-use Rattle.std.proofs.lemmas.Bool.{eq-eqb, ne_eqb, cond-true, cond-false}
+use Rattle.std.proofs.lemmas.Bool.{ne_eqb, cond-false}
 use Rattle.galois.specs.Product.{reciprocal}
 use Rattle.byte.specs.declared.element.Byte.{Byte}
 use Rattle.byte.specs.Field.{byte, byte_products, inverse_of}
@@ -12,13 +12,6 @@ cases : (a : Byte) (r : Option Byte) → r ≡ inverse_of a → MatchOption r (a
 cases a r e =
     subst (λ (o : Option Byte). MatchOption o (a ≡ byte 0) (λ b. byte_products.times a b ≡ byte 1)) (sym e)
     (byte_product_laws.inverse a)
-
-pub returns-then-value-eq0 : goal.returns-then-value-eq0
-returns-then-value-eq0 c =
-    let absent : ◌≡◌ {A = Option Byte} None (inverse_of c.args.self) =
-    sym (cond-true (eqb c.args.self.value 0) None (Some (byte (reciprocal c.args.self.value)))
-    (eq-eqb c.args.self.value 0 (sym c.value.ensures ∙ c.if-value-eq0.true))) in
-    record { value = absent; cases = cases c.args.self None absent }
 
 pub returns-else-value-eq0 : goal.returns-else-value-eq0
 returns-else-value-eq0 c =

@@ -1,27 +1,23 @@
-use Rattle.std.proofs.Common.{◌≡◌, ◌+◌, ◌-◌, ◌≤◌, refl, ap, ◌∙◌, arith}
+use Rattle.std.proofs.Common.{◌≡◌, ◌-◌, eqb, sym, ap, ◌∙◌, arith, rules}
+use Rattle.std.proofs.lemmas.Bool.{cond-true, cond-false, eq-eqb, ne_eqb}
 use Rattle.codes.specs.Shape.{Shape}
 use Rattle.codes.specs.declared.step.Step.{Step}
-use Rattle.plan.specs.declared.code.PlanCode.{PlanCode}
-use Rattle.plan.specs.declared.code.PlanCode.TheVariants.{TwoDeadlines}
-use Rattle.plan.specs.Codes.{CodeOf}
-use Rattle.plan.proofs.Means.{code_shape, plan_memory}
+use Rattle.plan.proofs.Means.{plan_memory}
 use Rattle.plan.proofs.card.Plan.code.Goals as goal
 
-pub returns : goal.returns
-returns c =
-    let self = c.args.self.now in
-    let second = c.in-Ok-new-3.ensures.made in
-    let longer : c.in-Ok-new-3.second.step.value ≡ self.stretch - 1 =
-    ap (λ (g : Step). g.value) second.1 ∙ c.in-Ok-new-2.ensures.made in
-    let two : 2 ≤ self.stretch = omega arith in
-    let made : PlanCode =
-    TwoDeadlines (record { code = record { first = c.in-Ok.first; second = c.in-Ok-new-3.second; delay = self.width + 1 }; step = c.in-Ok-new.step }) in
-    let parts : CodeOf self.burst self.width self.stretch made =
-    (two, c.in-Ok.ensures.made, second.0, longer, refl, c.in-Ok-new.ensures.made) in
-    let shape = code_shape self.burst self.width self.stretch made parts in
-    record {
-      parts = parts;
-      shape = shape;
-      memory = ap (λ (x : Shape). x.memory) shape
-          ∙ plan_memory self.burst self.width self.stretch self.bursts.1 self.widths.1 self.stretches.0 self.stretches.1;
-    }
+pub returns-in_default-clause-memory : goal.returns-in_default-clause-memory
+returns-in_default-clause-memory c =
+    let plan = c.args.self.now in
+    let one : plan.stretch ≡ 1 = search rules in
+    let shape = cond-true (eqb plan.stretch 1) _ _ (eq-eqb plan.stretch 1 one) in
+    rw (c.from-step.ensures.0, c.of-first.ensures)
+    (sym (ap (λ (x : Shape). x.memory) shape) ∙ plan_memory plan.burst plan.width plan.stretch (omega arith) (omega arith) (omega arith) (omega arith))
+
+pub returns-clause-memory : goal.returns-clause-memory
+returns-clause-memory c =
+    let plan = c.args.self.now in
+    let from : c.in-Ok.longer.value ≡ plan.stretch - 1 = omega (arith, c.in-Ok.ensures.made) in
+    let longer : c.of-second.result.step.value ≡ plan.stretch - 1 = ap (λ (s : Step). s.value) c.of-second.ensures.step ∙ from in
+    let shape = cond-false (eqb plan.stretch 1) _ _ (ne_eqb plan.stretch 1 (λ e. omega arith)) in
+    rw (c.from-step.ensures.0, c.of-first.ensures, c.of-second.ensures.width, longer, c.width-delay.ensures.value)
+    (sym (ap (λ (x : Shape). x.memory) shape) ∙ plan_memory plan.burst plan.width plan.stretch (omega arith) (omega arith) (omega arith) (omega arith))
