@@ -11,10 +11,12 @@ use Rattle.layout.specs.Layout.{byte_count, count_of_data, is_width, outside_sha
 use Rattle.layout.specs.Words.{bits, word_in}
 use Rattle.layout.proofs.Limits.{sources_within, symbols_within, width_within}
 use Rattle.layout.proofs.First.{first_none_more, first_at}
+use Rattle.frame_reader.specs.declared.check.Checked.{Checked}
 use Rattle.frame_reader.specs.declared.steps.Expected.{Expected}
 use Rattle.frame_reader.specs.declared.steps.Expected.TheVariants.{Slot, Shape, Data, Count}
-use Rattle.frame_reader.specs.declared.steps.Step.{Step}
-use Rattle.frame_reader.specs.declared.steps.Step.TheVariants.{Next, End}
+use Rattle.std.specs.declared.ops.ControlFlow.{ControlFlow}
+use Rattle.std.specs.declared.ops.ControlFlow.TheVariants.{Continue, Break}
+use Rattle.frame_reader.specs.Checking.{checked_as}
 use Rattle.frame_reader.specs.Steps.{next_from, place_of}
 
 -- what is waited for at word i fits the words before it
@@ -26,9 +28,9 @@ Waits bs i (Data head left) =
 Waits bs i (Count head) = (head ≡ head_of bs) × (i ≡ suc (suc (count_of_data (byte_count (head_of bs)))))
 
 -- a step leads to what is waited for at word i, or there to the end
-abbrev pub Leads : List ℕ → ℕ → Step → Type 0
-Leads bs i (Next e) = Waits bs i e
-Leads bs i (End head) = (head ≡ head_of bs) × (i ≡ word_count (head_of bs))
+abbrev pub Leads : List ℕ → ℕ → ControlFlow Head Expected → Type 0
+Leads bs i (Continue e) = Waits bs i e
+Leads bs i (Break head) = (head ≡ head_of bs) × (i ≡ word_count (head_of bs))
 
 -- what is waited for fits, and no word so far is at fault
 pub record Reached (bs : List ℕ) (i : ℕ) (e : Expected) : Type 0 where
@@ -102,19 +104,40 @@ module _ (bs : List ℕ) where
       (λ t. let last = ltb-false 3 left t in (w.0, omega arith))
   leads i (Count head) w right = (w.0, omega (arith, w.1))
 
-  -- one word more
-  pub more : (i : ℕ) (e : Expected) (s : Step) → Reached bs i e → 4 * i + 4 ≤ length bs → place_fault (place_of e i) i (word_in bs i) ≡ None
-      → s ≡ next_from e (word_in bs i) → (first_below (word_fault bs) (suc i) ≡ None) × Leads bs (suc i) s
-  more i e s r there right to = (
-    first_none_more (word_fault bs) i r.right (fault_there i e r.waits there ∙ right),
-    subst (λ (t : Step). Leads bs (suc i) t) (sym to) (leads i e r.waits right),
-  )
+  -- the word that is read there
+  module _ (i : ℕ) (e : Expected) (w : ℕ) (r : Reached bs i e) (there : 4 * i + 4 ≤ length bs) (is : w ≡ word_in bs i) where
+    -- it is at fault
+    pub faulty : (fault : FrameFault) → Some fault ≡ place_fault (place_of e i) i w → frame_fault bs ≡ Some fault
+    faulty fault wrong =
+        first_at (word_fault bs) i (word_count (head_of bs)) fault r.right
+        (fault_there i e r.waits there ∙ ap (place_fault (place_of e i) i) (sym is) ∙ sym wrong) (waits_lt i e r.waits)
 
-  -- the word at fault
-  pub faulty : (i : ℕ) (e : Expected) (fault : FrameFault) → Reached bs i e → 4 * i + 4 ≤ length bs → place_fault (place_of e i) i (word_in bs i) ≡ Some fault
-      → frame_fault bs ≡ Some fault
-  faulty i e fault r there wrong =
-      first_at (word_fault bs) i (word_count (head_of bs)) fault r.right (fault_there i e r.waits there ∙ wrong) (waits_lt i e r.waits)
+    -- it is not, and leads on
+    module _ (right : None ≡ place_fault (place_of e i) i w) where
+      fine : place_fault (place_of e i) i (word_in bs i) ≡ None
+      fine = ap (place_fault (place_of e i) i) (sym is) ∙ sym right
+
+      so_far : first_below (word_fault bs) (suc i) ≡ None
+      so_far = first_none_more (word_fault bs) i r.right (fault_there i e r.waits there ∙ fine)
+
+      leads_on : (s : ControlFlow Head Expected) → s ≡ next_from e w → Leads bs (suc i) s
+      leads_on s to = subst (λ (t : ControlFlow Head Expected). Leads bs (suc i) t) (sym (to ∙ ap (next_from e) is)) (leads i e r.waits fine)
+
+      -- to the next word
+      pub onward : (next : Expected) → Continue next ≡ next_from e w → Reached bs (i + 1) next
+      onward next to =
+          let one : suc i ≡ i + 1 = omega arith in
+          subst (λ n. Reached bs n next) one (record { right = so_far; waits = leads_on (Continue next) to })
+
+      -- to the frame's end
+      module _ (last : Head) (to : Break last ≡ next_from e w) where
+        pub whole : frame_fault bs ≡ None
+        whole = ap (first_below (word_fault bs)) (sym (leads_on (Break last) to).1) ∙ so_far
+
+        pub said : ◌≡◌ {A = Checked} (record { head = last; words = i + 1 }) (checked_as (head_of bs))
+        said =
+            let words : i + 1 ≡ word_count (head_of bs) = omega (arith, (leads_on (Break last) to).1) in
+            λ k. record { head = (leads_on (Break last) to).0 k; words = words k }
 
   -- the word that is missing
   pub missing : (i : ℕ) (e : Expected) → Reached bs i e → length bs < 4 * i + 4 → frame_fault bs ≡ Some (EndsEarly i)

@@ -3,10 +3,10 @@ ghost use Rattle.std.specs.Result.{result_err};
 ghost use Rattle.layout.specs.Faults.{frame_fault};
 ghost use Rattle.frame_reader.specs.Checking.{AcceptsFrames, Framed};
 
-use crate::steps::{Expected, Step, follow};
+use crate::steps::Expected;
 use layout::fault::FrameFault;
 use layout::head::Head;
-use layout::words::word_at;
+use std::ops::ControlFlow;
 
 // A frame without fault: what it says, and how many words it has.
 #[derive(Clone, Copy, PartialEq, Eq, Debug)]
@@ -21,13 +21,13 @@ pub fn check(bytes: &[u8]) -> Result<Checked, FrameFault>
     ensures framed { IfOk result (Framed bytes.now) }
     ensures exactly { AcceptsFrames bytes.now result }
 {
-    let words = bytes.len() / 4;
+    let (words, _) = bytes.as_chunks::<4>();
     let mut expected = Expected::Slot;
-    for i in 0..words {
-        match follow(expected, i, word_at(bytes, i))? {
-            Step::Next(next) => expected = next,
-            Step::End(head) => return Ok(Checked { head, words: i + 1 }),
+    for (i, word) in words.iter().enumerate() {
+        match expected.follow(i, u32::from_be_bytes(*word))? {
+            ControlFlow::Continue(next) => expected = next,
+            ControlFlow::Break(head) => return Ok(Checked { head, words: i + 1 }),
         }
     }
-    Err(FrameFault::EndsEarly(words))
+    Err(FrameFault::EndsEarly(words.len()))
 }

@@ -1,5 +1,6 @@
 ghost use Rattle.std.specs.Prelude.{◌≡◌};
 ghost use Rattle.frame_reader.specs.ErrorNumber.{error_number};
+ghost use Rattle.frame_reader.specs.declared.error.ReadError.TheVariants.{Frame, Refused};
 
 use layout::fault::FrameFault;
 use refusal::Refusal;
@@ -16,7 +17,7 @@ pub enum ReadError {
 }
 
 impl ReadError {
-    // The refusal's number, whichever layer it comes from.
+    // The refusal's number, whichever layer it comes from. A case that holds another error takes none of its own.
     pub fn number(self) -> u8
         ensures { result ≡ error_number self }
     {
@@ -25,5 +26,23 @@ impl ReadError {
             ReadError::OtherWidth => 9,
             ReadError::Refused(refusal) => refusal.number(),
         }
+    }
+}
+
+// A frame's fault is handed on whole.
+impl From<FrameFault> for ReadError {
+    ghost from_gives = { λ fault error. error ≡ Frame fault };
+
+    fn from(fault: FrameFault) -> Self {
+        Self::Frame(fault)
+    }
+}
+
+// And so is a refusal of the call.
+impl From<Refusal> for ReadError {
+    ghost from_gives = { λ refusal error. error ≡ Refused refusal };
+
+    fn from(refusal: Refusal) -> Self {
+        Self::Refused(refusal)
     }
 }

@@ -3,7 +3,7 @@ ghost use Rattle.std.specs.Result.{result_err};
 ghost use Rattle.layout.specs.Layout.{count_of_data};
 ghost use Rattle.frame_reader.specs.Reading.{read_refusal, block_in, symbol_in, ReadAs, AcceptsBlocks};
 
-use crate::check::check;
+use crate::check::{Checked, check};
 use crate::error::ReadError;
 use arithmetic::arithmetic::Arithmetic;
 use layout::head::BlockShape;
@@ -25,22 +25,21 @@ fn symbol_at<A: Arithmetic>(bytes: &[u8], i: usize) -> A::Sym
 {
     let width = A::symbol_width();
     let mut four = [0; 4];
-    for j in 0..width {
+    for (j, byte) in four[..width].iter_mut().enumerate() {
         let n = i * width + j;
-        four[j] = bytes[4 * (2 + n / 3) + 1 + n % 3];
+        *byte = bytes[4 * (2 + n / 3) + 1 + n % 3];
     }
     A::from_bytes(four)
 }
 
-// Lays the first symbols of the block that the bytes carry over those of the output.
-fn read_block<A: Arithmetic>(bytes: &[u8], count: usize, out: &mut [A::Sym])
-    requires small { count ≤ 384 }
-    requires within { 4 * (2 + count_of_data (count * A.Arithmetic.bytes.width)) ≤ length bytes.now }
-    requires room { count ≤ length out.old }
-    ensures { out.new ≡ block_in A.Arithmetic.bytes bytes.now count ++ drop count out.old }
+// Fills a block with the first symbols that the bytes carry.
+fn read_block<A: Arithmetic>(bytes: &[u8], block: &mut [A::Sym])
+    requires small { length block.old ≤ 384 }
+    requires within { 4 * (2 + count_of_data (length block.old * A.Arithmetic.bytes.width)) ≤ length bytes.now }
+    ensures { block.new ≡ block_in A.Arithmetic.bytes bytes.now (length block.old) }
 {
-    for i in 0..count {
-        out[i] = symbol_at::<A>(bytes, i);
+    for (i, symbol) in block.iter_mut().enumerate() {
+        *symbol = symbol_at::<A>(bytes, i);
     }
 }
 
@@ -51,22 +50,18 @@ pub fn read<A: Arithmetic>(bytes: &[u8], out: &mut [A::Sym]) -> Result<Found, Re
     ensures exactly { AcceptsBlocks A.Arithmetic.bytes bytes.now out.old out.new result }
     ensures unchanged { OnErr result (out.new ≡ out.old) }
 {
-    let checked = match check(bytes) {
-        Ok(checked) => checked,
-        Err(fault) => return Err(ReadError::Frame(fault)),
-    };
-    let shape = checked.head.shape;
-    if checked.head.width as usize != A::symbol_width() {
+    let Checked { head, words } = check(bytes)?;
+    if head.width as usize != A::symbol_width() {
         return Err(ReadError::OtherWidth);
     }
-    let count = ((shape.sources + shape.parities) * shape.symbols) as usize;
+    let count = head.shape.symbol_count() as usize;
     if out.len() < count {
-        return Err(ReadError::Refused(Refusal::ShortOutput));
+        return Err(Refusal::ShortOutput.into());
     }
-    read_block::<A>(bytes, count, out);
+    read_block::<A>(bytes, &mut out[..count]);
     Ok(Found {
-        slot: checked.head.slot,
-        shape,
-        words: checked.words,
+        slot: head.slot,
+        shape: head.shape,
+        words,
     })
 }

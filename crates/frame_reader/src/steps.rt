@@ -6,6 +6,7 @@ ghost use Rattle.frame_reader.specs.Steps.{next_from, place_of};
 use layout::fault::FrameFault;
 use layout::head::{BlockShape, Head};
 use layout::words::{Kind, bits, kind_of};
+use std::ops::ControlFlow;
 
 // The word that is waited for, with what the words before it have said.
 #[derive(Clone, Copy)]
@@ -17,14 +18,8 @@ pub(crate) enum Expected {
     Count { head: Head },
 }
 
-// Where a word leads: to the next one, or to the frame's end.
-#[derive(Clone, Copy)]
-pub(crate) enum Step {
-    Next(Expected),
-    End(Head),
-}
-
 // What the second word says, with the slot that the first one said.
+// This and the next are no methods of `Head`: they would be public calls of `layout`, for the reader alone.
 fn head_from(slot: u32, word: u32) -> Head
     ensures { result ≡ head_in_words slot word }
 {
@@ -55,43 +50,51 @@ fn unused(word: u32, carried: u32) -> u32
     word & (0xff_ffff >> (8 * carried))
 }
 
-// What the word is at its place: at fault, or the next step.
-pub(crate) fn follow(expected: Expected, i: usize, word: u32) -> Result<Step, FrameFault>
-    ensures fault { result_err result ≡ place_fault (place_of expected i) i word }
-    ensures next { IfOk result (λ s. s ≡ next_from expected word) }
-{
-    match (expected, kind_of(word)) {
-        (Expected::Slot, Kind::Slot) => Ok(Step::Next(Expected::Shape {
-            slot: bits(word, 27, 0),
-        })),
-        (Expected::Shape { slot }, Kind::Shape) => {
-            let head = head_from(slot, word);
-            if !is_lawful(head) {
-                return Err(FrameFault::WrongBits(i));
+impl Expected {
+    // What the word is at its place: at fault, or a step on to the next word, or out with what the frame says. All in one match, on what is
+    // waited for and what is met together: a rule of this project (docs/DECISIONS.md).
+    pub(crate) fn follow(
+        self,
+        i: usize,
+        word: u32,
+    ) -> Result<ControlFlow<Head, Expected>, FrameFault>
+        ensures fault { result_err result ≡ place_fault (place_of self i) i word }
+        ensures next { IfOk result (λ s. s ≡ next_from self word) }
+    {
+        match (self, kind_of(word)) {
+            (Expected::Slot, Some(Kind::Slot)) => Ok(ControlFlow::Continue(Expected::Shape {
+                slot: bits(word, 27, 0),
+            })),
+            (Expected::Shape { slot }, Some(Kind::Shape)) => {
+                let head = head_from(slot, word);
+                if !is_lawful(head) {
+                    return Err(FrameFault::WrongBits(i));
+                }
+                let left = head.shape.symbol_count() * head.width;
+                Ok(ControlFlow::Continue(Expected::Data { head, left }))
             }
-            let left = (head.shape.sources + head.shape.parities) * head.shape.symbols * head.width;
-            Ok(Step::Next(Expected::Data { head, left }))
+            (Expected::Data { head, left }, Some(Kind::Data)) => {
+                let carried = left.min(3);
+                if bits(word, 27, 24) != carried || unused(word, carried) != 0 {
+                    return Err(FrameFault::WrongBits(i));
+                }
+                let next = if left > 3 {
+                    Expected::Data {
+                        head,
+                        left: left - 3,
+                    }
+                } else {
+                    Expected::Count { head }
+                };
+                Ok(ControlFlow::Continue(next))
+            }
+            (Expected::Count { head }, Some(Kind::Count)) => {
+                if bits(word, 27, 0) as usize != i {
+                    return Err(FrameFault::WrongBits(i));
+                }
+                Ok(ControlFlow::Break(head))
+            }
+            _ => Err(FrameFault::OtherKind(i)),
         }
-        (Expected::Data { head, left }, Kind::Data) => {
-            let carried = left.min(3);
-            if bits(word, 27, 24) != carried || unused(word, carried) != 0 {
-                return Err(FrameFault::WrongBits(i));
-            }
-            if left > 3 {
-                Ok(Step::Next(Expected::Data {
-                    head,
-                    left: left - 3,
-                }))
-            } else {
-                Ok(Step::Next(Expected::Count { head }))
-            }
-        }
-        (Expected::Count { head }, Kind::Count) => {
-            if bits(word, 27, 0) as usize != i {
-                return Err(FrameFault::WrongBits(i));
-            }
-            Ok(Step::End(head))
-        }
-        _ => Err(FrameFault::OtherKind(i)),
     }
 }

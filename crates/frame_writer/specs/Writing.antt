@@ -1,12 +1,17 @@
 -- What writing a frame answers. Assumes nothing.
 use Rattle.std.specs.Prelude.{◌≡◌, ℕ, ◌*◌, not, List, Option, ◌==◌, nat_lt}
+use Rattle.std.specs.List.{flat_map}
 use Rattle.refusal.specs.declared.Refusal.{Refusal}
 use Rattle.refusal.specs.declared.Refusal.TheVariants.{OutsideLimits, OtherLength, ShortOutput}
 use Rattle.refusal.specs.Order.{refused, accepted}
 use Rattle.arithmetic.specs.Operations.{Bytes}
 use Rattle.layout.specs.declared.head.BlockShape.{BlockShape}
-use Rattle.layout.specs.Layout.{symbol_count}
-use Rattle.layout.specs.Frames.{frame_of, outside, words_of, Within}
+use Rattle.layout.specs.Layout.{frame_words, symbol_count}
+use Rattle.layout.specs.Frames.{frame_of, head_for, outside, words_of, Within}
+
+-- the words of a block's frame
+abbrev pub word_list : {S : Type 0} → Bytes S → ℕ → BlockShape → List S → List ℕ
+word_list b slot x block = frame_words (head_for b slot x) (flat_map b.write block)
 
 -- a block of n symbols, for an output of m bytes
 abbrev pub write_refusal : {S : Type 0} → Bytes S → ℕ → BlockShape → ℕ → ℕ → Option Refusal

@@ -1,5 +1,5 @@
 // Writes a block as a frame.
 #![tactic(auto)]
 
-mod bytes;
+pub mod frame;
 pub mod write;

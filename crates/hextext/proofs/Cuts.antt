@@ -1,5 +1,5 @@
 -- A text that grew can be cut back to what it was. Assumes nothing.
-use Rattle.std.proofs.Common.{◌≡◌, ℕ, ◌≤◌, true, List, ◌++◌, length, take, is_err, Ok, Err, IsUtf8, Result, sym, ap, ◌∙◌, subst, arith}
+use Rattle.std.proofs.Common.{◌≡◌, ℕ, ◌≤◌, true, false, List, ◌++◌, length, take, is_err, Ok, Err, IsUtf8, Result, sym, ap, ◌∙◌, subst, arith}
 use mathlib.Core.Logic.{∥∥₁_elim}
 use native.Mathlib.Bridge.{le_prop}
 use Rattle.std.specs.String.Boundary.{IsSplitPoint}
@@ -28,3 +28,7 @@ pub cut_back : {X Y : Type 0} (r : Result X Y) (more before was now : List ℕ) 
     → Begins more before was r → now ≡ take n was → Appends more before now r
 cut_back (Ok _) more before was now n e is h cut = absurd (false≢true e)
 cut_back (Err _) more before was now n e is h cut = cut ∙ ap (take n) h.1 ∙ take_at before h.0 n (sym is)
+
+pub kept_whole : {X Y : Type 0} (r : Result X Y) (more before now : List ℕ) → is_err r ≡ false → Begins more before now r → Appends more before now r
+kept_whole (Ok _) more before now e h = h
+kept_whole (Err _) more before now e h = absurd (false≢true (sym e))

@@ -1,5 +1,5 @@
 ghost use Rattle.std.specs.Prelude.{◌≡◌};
-ghost use Rattle.hextext.specs.declared.error.ReadError.TheVariants.{NoMemory};
+ghost use Rattle.hextext.specs.declared.error.ReadError.TheVariants.{Refused, NoMemory};
 
 use refusal::Refusal;
 use std::alloc::{AllocError, AllocFailed};
@@ -11,6 +11,14 @@ pub enum ReadError {
     Refused(Refusal),
     // The text is a packet, but there is no memory for its symbols.
     NoMemory,
+}
+
+impl From<Refusal> for ReadError {
+    ghost from_gives = { λ why r. r ≡ Refused why };
+
+    fn from(why: Refusal) -> ReadError {
+        ReadError::Refused(why)
+    }
 }
 
 impl From<AllocError> for ReadError {

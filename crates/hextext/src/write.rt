@@ -1,13 +1,15 @@
-ghost use Rattle.std.specs.Prelude.{string_bytes};
+ghost use Rattle.std.specs.Prelude.{ℕ, List, string_bytes};
+ghost use Rattle.std.specs.Fn.{FnOnceReturnsAtMut};
 ghost use Rattle.std.specs.List.{flat_map};
 ghost use Rattle.hextext.specs.Digits.{byte_text};
 ghost use Rattle.hextext.specs.Packet.{packet_text, symbol_text};
-ghost use Rattle.hextext.specs.Writing.{Appends, Begins};
+ghost use Rattle.hextext.specs.Writing.{Appends, Begins, Begun};
 
 use crate::digits::digit_char;
 use arithmetic::arithmetic::Arithmetic;
 use std::alloc::AllocError;
 
+// Two digits, the high one first. Pushed, since `write!` to a text says nothing of what it leaves where memory runs out.
 fn push_byte(text: &mut String, byte: u8) -> Result<(), AllocError>
     ensures { Begins (byte_text byte) (string_bytes text.old) (string_bytes text.new) result }
 {
@@ -15,7 +17,7 @@ fn push_byte(text: &mut String, byte: u8) -> Result<(), AllocError>
     text.push(digit_char(byte % 16))
 }
 
-// Where memory runs out, what was appended so far stays: `write_bytes` cuts it off again.
+// Where memory runs out, what was appended so far stays: `whole` cuts it off again.
 fn push_bytes(text: &mut String, bytes: &[u8]) -> Result<(), AllocError>
     ensures { Begins (flat_map byte_text bytes.now) (string_bytes text.old) (string_bytes text.new) result }
 {
@@ -25,17 +27,15 @@ fn push_bytes(text: &mut String, bytes: &[u8]) -> Result<(), AllocError>
     Ok(())
 }
 
+// The digits of the symbol's bytes.
 fn push_symbol<A: Arithmetic>(text: &mut String, x: A::Sym) -> Result<(), AllocError>
     ensures { Begins (symbol_text A.Arithmetic.bytes x) (string_bytes text.old) (string_bytes text.new) result }
 {
     let four = A::to_bytes(x);
-    for i in 0..A::symbol_width() {
-        push_byte(text, four[i])?;
-    }
-    Ok(())
+    push_bytes(text, &four[..A::symbol_width()])
 }
 
-// Where memory runs out, what was appended so far stays: `write_packet` cuts it off again.
+// The loop of `push_bytes`, by symbols: one for both needs a closure, and a contract on what each of its calls leaves, and reads no plainer.
 fn push_symbols<A: Arithmetic>(text: &mut String, symbols: &[A::Sym]) -> Result<(), AllocError>
     ensures { Begins (packet_text A.Arithmetic.bytes symbols.now) (string_bytes text.old) (string_bytes text.new) result }
 {
@@ -45,26 +45,33 @@ fn push_symbols<A: Arithmetic>(text: &mut String, symbols: &[A::Sym]) -> Result<
     Ok(())
 }
 
-// Appends these bytes as text; where memory runs out, the text stays as it was.
-pub fn write_bytes(text: &mut String, bytes: &[u8]) -> Result<(), AllocError>
-    ensures { Appends (flat_map byte_text bytes.now) (string_bytes text.old) (string_bytes text.new) result }
+// Appends what `append` appends; where memory runs out, the text stays as it was.
+fn whole<F: FnOnce(&mut String) -> Result<(), AllocError>>(
+    text: &mut String,
+    append: F,
+) -> Result<(), AllocError>
+    requires callable { F.IsAlwaysCallable append }
+    requires begun { (more : List ℕ) × Begun (FnOnceReturnsAtMut F.FnOnce append text.old) more (string_bytes text.old) }
+    ensures { (more : List ℕ) → Begun (FnOnceReturnsAtMut F.FnOnce append text.old) more (string_bytes text.old) → Appends more (string_bytes text.old) (string_bytes text.new) result }
 {
     let end = text.len();
-    let written = push_bytes(text, bytes);
+    let written = append(text);
     if written.is_err() {
         text.truncate(end);
     }
     written
 }
 
+// Appends these bytes as text; where memory runs out, the text stays as it was.
+pub fn write_bytes(text: &mut String, bytes: &[u8]) -> Result<(), AllocError>
+    ensures { Appends (flat_map byte_text bytes.now) (string_bytes text.old) (string_bytes text.new) result }
+{
+    whole(text, |text| push_bytes(text, bytes))
+}
+
 // Appends the packet's text; where memory runs out, the text stays as it was.
 pub fn write_packet<A: Arithmetic>(text: &mut String, symbols: &[A::Sym]) -> Result<(), AllocError>
     ensures { Appends (packet_text A.Arithmetic.bytes symbols.now) (string_bytes text.old) (string_bytes text.new) result }
 {
-    let before = text.len();
-    let written = push_symbols::<A>(text, symbols);
-    if written.is_err() {
-        text.truncate(before);
-    }
-    written
+    whole(text, |text| push_symbols::<A>(text, symbols))
 }

@@ -1,12 +1,13 @@
 -- The first of f 0, .., f (n - 1) that there is. Assumes nothing.
-use Rattle.std.proofs.Common.{◌≡◌, ℕ, zero, suc, ◌<◌, Some, None, Option, refl, ap, ◌∙◌, inl, inr, arith}
+use Rattle.std.proofs.Common.{◌≡◌, ℕ, zero, suc, ◌<◌, Some, None, Option, refl, sym, ap, ◌∙◌, inl, inr, arith}
 use Rattle.std.proofs.lemmas.Bool.{cases_eq}
+use Rattle.std.proofs.lemmas.Option.{none-some}
 use Rattle.layout.specs.Faults.{or_else, first_below}
 
 module _ {X : Type 0} where
   -- of two there is neither only if neither is there
   neither : (x y : Option X) → or_else x y ≡ None → (x ≡ None) × (y ≡ None)
-  neither (Some x) y e = let no : ◌≡◌ {A = ℕ} 0 1 = cc in absurd (omega arith)
+  neither (Some x) y e = absurd (none-some x (sym e))
   neither None y e = (refl, e)
 
 module _ {X : Type 0} (f : ℕ → Option X) where

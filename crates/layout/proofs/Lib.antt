@@ -1,4 +1,5 @@
 pub mod Blocks
+pub mod Chunks
 pub mod First
 pub mod Framed
 pub mod Limits

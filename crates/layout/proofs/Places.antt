@@ -1,9 +1,10 @@
 -- The words that may stand at each place of a frame. Assumes nothing.
-use Rattle.std.proofs.Common.{◌≡◌, ℕ, zero, suc, ◌+◌, ◌-◌, ◌*◌, ◌/◌, ◌%◌, ◌^◌, ◌<◌, ◌≤◌, Bool, true, false, cond, not, eqb, ltb, List, [], ◌∷◌, length, get_or, Some, None, refl, ap, ◌∙◌, arith}
+use Rattle.std.proofs.Common.{◌≡◌, ℕ, zero, suc, ◌+◌, ◌-◌, ◌*◌, ◌/◌, ◌%◌, ◌^◌, ◌<◌, ◌≤◌, Bool, true, false, cond, not, eqb, ltb, List, [], ◌∷◌, length, get_or, Some, None, refl, sym, ap, ◌∙◌, arith}
 use Rattle.std.specs.List.{AllByRecursion}
 use Rattle.std.proofs.lemmas.List.{get_or_past}
 use Rattle.std.proofs.lemmas.Bool.{eq-eqb, eqb-true, le-ltb, ltb-false, not-false, not_from_true, or_from, or_parts}
 use Rattle.std.proofs.lemmas.Bool.Decides.{nat_tests}
+use Rattle.std.proofs.lemmas.Option.{none-some}
 use Rattle.codes.specs.Shape.{last_slot}
 use Rattle.layout.specs.declared.fault.FrameFault.TheVariants.{EndsEarly, OtherKind, WrongBits}
 use Rattle.layout.specs.declared.head.Head.{Head}
@@ -26,9 +27,9 @@ module _ {X : Type 0} where
 
   tests_back : (a b c : Bool) (x y z : X) → cond a (Some x) (cond b (Some y) (cond c (Some z) None)) ≡ None
       → (a ≡ false) × ((b ≡ false) × (c ≡ false))
-  tests_back true b c x y z e = let no : ◌≡◌ {A = ℕ} 0 1 = cc in absurd (omega arith)
-  tests_back false true c x y z e = let no : ◌≡◌ {A = ℕ} 0 1 = cc in absurd (omega arith)
-  tests_back false false true x y z e = let no : ◌≡◌ {A = ℕ} 0 1 = cc in absurd (omega arith)
+  tests_back true b c x y z e = absurd (none-some x (sym e))
+  tests_back false true c x y z e = absurd (none-some y (sym e))
+  tests_back false false true x y z e = absurd (none-some z (sym e))
   tests_back false false false x y z e = (refl, (refl, refl))
 
 -- word i has no fault just where it is there, of the kind of its place, and has no wrong bits

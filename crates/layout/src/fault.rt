@@ -13,7 +13,7 @@ pub enum FrameFault {
 }
 
 impl FrameFault {
-    // The refusal's number.
+    // The refusal's number, told here since a case that holds a word takes no number of its own.
     pub fn number(self) -> u8
         ensures { result ≡ fault_number self }
     {
@@ -29,9 +29,9 @@ impl FrameFault {
         ensures { result ≡ fault_word self }
     {
         match self {
-            FrameFault::EndsEarly(word) => word,
-            FrameFault::OtherKind(word) => word,
-            FrameFault::WrongBits(word) => word,
+            FrameFault::EndsEarly(word)
+            | FrameFault::OtherKind(word)
+            | FrameFault::WrongBits(word) => word,
         }
     }
 }

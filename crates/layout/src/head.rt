@@ -1,5 +1,7 @@
-ghost use Rattle.std.specs.Prelude.{◌≡◌};
-ghost use Rattle.layout.specs.Layout.{outside_shape};
+ghost use Rattle.std.specs.Prelude.{◌≡◌, false};
+ghost use Rattle.layout.specs.Layout.{outside_shape, symbol_count as symbol_count_spec};
+
+use codes::limits::{Parities, Sources, Symbols};
 
 // How a block is made up: K sub-symbols of its packet and P parities, each of L symbols.
 #[derive(Clone, Copy, PartialEq, Eq, Debug)]
@@ -14,12 +16,17 @@ impl BlockShape {
     pub fn is_outside(self) -> bool
         ensures { result ≡ outside_shape self }
     {
-        self.sources < 1
-            || self.sources > 8
-            || self.parities < 1
-            || self.parities > 4
-            || self.symbols < 1
-            || self.symbols > 32
+        Sources::excludes(self.sources)
+            || Parities::excludes(self.parities)
+            || Symbols::excludes(self.symbols)
+    }
+
+    // The symbols of a block.
+    pub fn symbol_count(self) -> u32
+        requires { outside_shape self ≡ false }
+        ensures { result ≡ symbol_count_spec self }
+    {
+        (self.sources + self.parities) * self.symbols
     }
 }
 

@@ -1,15 +1,23 @@
 ghost use Rattle.std.specs.Prelude.{◌≡◌, ◌+◌, ◌*◌, ◌<◌, ◌≤◌, length};
 ghost use Rattle.layout.specs.Words.{bits as bits_spec, word_in};
-ghost use Rattle.layout.specs.Kinds.{KindIs};
+ghost use Rattle.layout.specs.Kinds.{kind_number, KindIs};
 
-// The kind of a word, which its top four bits tell.
+// The kind of a word, with its number.
 #[derive(Clone, Copy, PartialEq, Eq, Debug)]
 pub enum Kind {
-    Slot,
-    Shape,
-    Data,
-    Count,
-    Other,
+    Slot = 1,
+    Shape = 2,
+    Data = 3,
+    Count = 4,
+}
+
+impl Kind {
+    // The kind's number, which a word's top four bits hold.
+    pub fn number(self) -> u32
+        ensures { result ≡ kind_number self }
+    {
+        self as u32
+    }
 }
 
 // Bits `high` to `low` of a word, as a number.
@@ -21,15 +29,16 @@ pub fn bits(word: u32, high: u32, low: u32) -> u32
     (word >> low) & (u32::MAX >> (31 - (high - low)))
 }
 
-pub fn kind_of(word: u32) -> Kind
+// The kind of a word, if its number is that of one. A function and no conversion: a word is more than its kind.
+pub fn kind_of(word: u32) -> Option<Kind>
     ensures { KindIs result word }
 {
     match bits(word, 31, 28) {
-        1 => Kind::Slot,
-        2 => Kind::Shape,
-        3 => Kind::Data,
-        4 => Kind::Count,
-        _ => Kind::Other,
+        1 => Some(Kind::Slot),
+        2 => Some(Kind::Shape),
+        3 => Some(Kind::Data),
+        4 => Some(Kind::Count),
+        _ => None,
     }
 }
 
@@ -38,10 +47,5 @@ pub fn word_at(bytes: &[u8], i: usize) -> u32
     requires { 4 * i + 4 ≤ length bytes.now }
     ensures { result ≡ word_in bytes.now i }
 {
-    u32::from_be_bytes([
-        bytes[4 * i],
-        bytes[4 * i + 1],
-        bytes[4 * i + 2],
-        bytes[4 * i + 3],
-    ])
+    u32::from_be_bytes(bytes.as_chunks::<4>().0[i])
 }

@@ -1,44 +1,53 @@
--- How far a walk to the first mark has come. Assumes nothing.
-use Rattle.std.proofs.Common.{◌≡◌, ℕ, ◌+◌, ◌<◌, ◌≤◌, false, eqb, List, [], ◌∷◌, ◌++◌, length, get_or, take, drop, sym, refl, ap, ◌∙◌, inl, inr, append_assoc, append-nil, zero-le, arith}
-use Rattle.std.proofs.lemmas.List.{drop_more, drop_all, take_more, take_all}
-use Rattle.std.proofs.lemmas.Bool.{cases_Bool, cond_both, cond-true, cond-false, eq-eqb, ne_eqb, eqb-false}
+-- Where a text is cut at its first mark. Assumes nothing.
+use Rattle.std.proofs.Common.{◌≡◌, ℕ, suc, ◌+◌, ◌<◌, ◌≤◌, Bool, true, false, cond, eqb, List, [], ◌∷◌, length, take, drop, sym, refl, ap, ◌∙◌, inl, inr, Some, None, Option, zero-le, arith}
+use Rattle.std.specs.List.{position, position_or_len}
+use Rattle.std.proofs.lemmas.List.{drop_all, take_all}
+use Rattle.std.proofs.lemmas.Bool.{cases_Bool, cond_both, eqb-false, ltb-false}
 use Rattle.linktext.specs.Fields.{before, behind, longer, lines_of}
 
--- no mark among the first i
-pub record Passed (mark : ℕ) (xs : List ℕ) (i : ℕ) : Type 0 where
-  pub first : before mark xs ≡ take i xs ++ before mark (drop i xs)
-  pub rest : behind mark xs ≡ behind mark (drop i xs)
+-- where the first mark stands, or the length where there is none
+abbrev place : ℕ → List ℕ → ℕ
+place mark xs = position_or_len (λ c. eqb c mark) xs
 
-pub passed_none : (mark : ℕ) (xs : List ℕ) → Passed mark xs 0
-passed_none mark xs = record { first = refl; rest = refl }
+before_place : (mark : ℕ) (xs : List ℕ) → take (place mark xs) xs ≡ before mark xs
+before_place mark [] = refl
+before_place mark (c ∷ cs) =
+    let e : 1 + place mark cs ≡ suc (place mark cs) = omega arith in
+    elim (cases_Bool (eqb c mark)) [
+      | inl t ↦ rw t refl
+      | inr f ↦ rw (f, e) (ap (λ (l : List ℕ). c ∷ l) (before_place mark cs))
+    ]
 
-pub passed_more : (mark : ℕ) (xs : List ℕ) (i : ℕ) → i < length xs → (get_or xs i 0 ≡ mark → ⊥) → Passed mark xs i → Passed mark xs (i + 1)
-passed_more mark xs i within other p =
-    let c = get_or xs i 0 in
-    let here = drop_more xs i 0 within in
-    let no = ne_eqb c mark other in
-    record {
-      first = p.first ∙ ap (λ (l : List ℕ). take i xs ++ before mark l) here ∙ ap (λ (l : List ℕ). take i xs ++ l) (cond-false (eqb c mark) [] (c ∷ before mark (drop (i + 1) xs)) no)
-          ∙ sym (append_assoc (take i xs) (c ∷ []) (before mark (drop (i + 1) xs))) ∙ ap (λ (l : List ℕ). l ++ before mark (drop (i + 1) xs)) (sym (take_more xs i 0 within));
-      rest = p.rest ∙ ap (behind mark) here ∙ cond-false (eqb c mark) (drop (i + 1) xs) (behind mark (drop (i + 1) xs)) no;
-    }
+behind_place : (mark : ℕ) (xs : List ℕ) → drop (place mark xs + 1) xs ≡ behind mark xs
+behind_place mark [] = refl
+behind_place mark (c ∷ cs) =
+    let e : 1 + place mark cs + 1 ≡ suc (place mark cs + 1) = omega arith in
+    elim (cases_Bool (eqb c mark)) [
+      | inl t ↦ rw t refl
+      | inr f ↦ rw (f, e) (behind_place mark cs)
+    ]
+
+-- what a place that was found, or not, says of the test for it
+taken : (b : Bool) (n v : ℕ) → Some n ≡ cond b (Some v) None → n ≡ v
+taken true n v e = cc
+taken false n v e = let z : ◌≡◌ {A = ℕ} 0 1 = cc in absurd (omega arith)
+
+missing : (b : Bool) (v : ℕ) → ◌≡◌ {A = Option ℕ} None (cond b (Some v) None) → b ≡ false
+missing true v e = let z : ◌≡◌ {A = ℕ} 0 1 = cc in absurd (omega arith)
+missing false v e = refl
 
 -- the mark is found
-pub passed_here : (mark : ℕ) (xs : List ℕ) (i : ℕ) → i < length xs → get_or xs i 0 ≡ mark → Passed mark xs i → (take i xs ≡ before mark xs) × (drop (i + 1) xs ≡ behind mark xs)
-passed_here mark xs i within blank p =
-    let c = get_or xs i 0 in
-    let here = drop_more xs i 0 within in
-    let yes = eq-eqb c mark blank in (
-      sym (p.first ∙ ap (λ (l : List ℕ). take i xs ++ before mark l) here ∙ ap (λ (l : List ℕ). take i xs ++ l) (cond-true (eqb c mark) [] (c ∷ before mark (drop (i + 1) xs)) yes) ∙ append-nil (take i xs)),
-      sym (p.rest ∙ ap (behind mark) here ∙ cond-true (eqb c mark) (drop (i + 1) xs) (behind mark (drop (i + 1) xs)) yes),
-    )
+pub cut_here : (mark : ℕ) (xs : List ℕ) (i : ℕ) → Some i ≡ position (λ c. eqb c mark) xs → (take i xs ≡ before mark xs) × (drop (i + 1) xs ≡ behind mark xs)
+cut_here mark xs i h =
+    let is : i ≡ place mark xs = taken _ i _ h in
+    rw is (before_place mark xs, behind_place mark xs)
 
 -- there is none
-pub passed_all : (mark : ℕ) (xs : List ℕ) (i : ℕ) → length xs ≤ i → Passed mark xs i → (xs ≡ before mark xs) × (◌≡◌ {A = List ℕ} [] (behind mark xs))
-passed_all mark xs i all p =
-    let none = drop_all i xs all in (
-      sym (p.first ∙ ap (λ (l : List ℕ). take i xs ++ before mark l) none ∙ append-nil (take i xs) ∙ take_all i xs all),
-      sym (p.rest ∙ ap (behind mark) none),
+pub no_cut : (mark : ℕ) (xs : List ℕ) → ◌≡◌ {A = Option ℕ} None (position (λ c. eqb c mark) xs) → (xs ≡ before mark xs) × (◌≡◌ {A = List ℕ} [] (behind mark xs))
+no_cut mark xs h =
+    let all : length xs ≤ place mark xs = ltb-false (place mark xs) (length xs) (missing _ _ h) in (
+      sym (take_all (place mark xs) xs all) ∙ before_place mark xs,
+      sym (drop_all (place mark xs + 1) xs (omega arith)) ∙ behind_place mark xs,
     )
 
 -- the first line, and those behind it

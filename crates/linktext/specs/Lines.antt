@@ -7,11 +7,7 @@ use Rattle.arithmetic.specs.Operations.{Bytes}
 use Rattle.codes.specs.Shape.{Shape}
 use Rattle.hextext.specs.Packet.{packet_text}
 use Rattle.plan.specs.declared.card.ArithmeticName.{ArithmeticName}
-use Rattle.plan.specs.declared.card.ArithmeticName.TheVariants.{Word, Byte}
-
-abbrev pub text_of_name : ArithmeticName → List ℕ
-text_of_name Word = codes "word"
-text_of_name Byte = codes "byte"
+use Rattle.plan.specs.Names.{text_of_name}
 
 -- the plan as it was handed in
 abbrev pub text_of_plan : ℕ → ℕ → ℕ → ℕ → ArithmeticName → List ℕ

@@ -1,26 +1,17 @@
 ghost use Rattle.std.specs.Prelude.{◌≡◌, IfOk, string_bytes};
 ghost use Rattle.plan.specs.Numbers.{short_deadline_of, deadline_of};
 ghost use Rattle.plan.specs.Codes.{plan_shape};
-ghost use Rattle.linktext.specs.Lines.{text_of_name, text_of_plan, text_of_shape, text_of_slot, advice, text_of_refusal};
+ghost use Rattle.linktext.specs.Lines.{text_of_plan, text_of_shape, text_of_slot, advice, text_of_refusal};
 
 use arithmetic::arithmetic::Arithmetic;
 use arithmetic::field::Field;
 use codes::code::Code;
 use hextext::write::write_packet;
-use plan::{ArithmeticName, Plan};
+use plan::Plan;
 use refusal::Refusal;
 use std::alloc::{AllocError, Global};
 
-fn name_text(name: ArithmeticName) -> &'static str
-    ensures { result.now ≡ text_of_name name }
-{
-    match name {
-        ArithmeticName::Word => "word",
-        ArithmeticName::Byte => "byte",
-    }
-}
-
-// The plan as it was handed in.
+// The plan as it was handed in. A function and no `Display`, here and below: those need an arithmetic, a field or a line's number, which no `Display` takes.
 pub fn plan_text(heap: Global, plan: &Plan) -> Result<String, AllocError>
     ensures { IfOk result (λ s. string_bytes s ≡ text_of_plan plan.now.burst plan.now.width plan.now.stretch plan.now.symbols plan.now.arithmetic) }
 {
@@ -28,7 +19,7 @@ pub fn plan_text(heap: Global, plan: &Plan) -> Result<String, AllocError>
     let width = plan.width();
     let stretch = plan.stretch();
     let symbols = plan.symbols();
-    let name = name_text(plan.arithmetic());
+    let name = plan.arithmetic();
     format!(in heap; "plan B={burst} m={width} alpha={stretch} L={symbols} {name} arithmetic")
 }
 
@@ -45,7 +36,7 @@ pub fn shape_text<F: Field>(heap: Global, plan: &Plan) -> Result<String, AllocEr
     format!(in heap; "T={short} D={long} K={sources} P={parities} M={memory}")
 }
 
-// What is wrong with a line, and what would be right.
+// What is wrong with a line, and what would be right: the text depends on the line too, so it is no `Display` of the refusal.
 fn advice_on(refusal: Refusal, line: u64) -> &'static str
     ensures { result.now ≡ advice refusal line }
 {

@@ -1,5 +1,8 @@
-ghost use Rattle.std.specs.Prelude.{◌≡◌, false, IfOk, MatchOption};
+ghost use Rattle.std.specs.Prelude.{◌≡◌, false, not, IfOk, MatchOption};
 ghost use Rattle.std.specs.Result.{result_err};
+ghost use Rattle.refusal.specs.Order.{refused, accepted};
+ghost use Rattle.refusal.specs.declared.Refusal.TheVariants.{BrokenLine};
+ghost use Rattle.linktext.specs.Fields.{front, back, is_number, read_on};
 ghost use Rattle.linktext.specs.PlanLine.{plan_line_refusal, letter_text, is_letter, Says};
 
 use crate::fields::{cut, number};
@@ -13,14 +16,22 @@ pub const LONGEST_LINE: usize = 2050;
 fn named(letter: &[u8]) -> Option<ArithmeticName>
     ensures { MatchOption result (is_letter letter.now ≡ false) (λ a. letter_text a ≡ letter.now) }
 {
-    if letter.len() != 1 {
-        return None;
-    }
-    match char::from(letter[0]) {
-        'W' => Some(ArithmeticName::Word),
-        'F' => Some(ArithmeticName::Byte),
+    match letter {
+        b"W" => Some(ArithmeticName::Word),
+        b"F" => Some(ArithmeticName::Byte),
         _ => None,
     }
+}
+
+// The number that a line begins with, and what stands behind its blank.
+fn field(line: &[u8]) -> Result<(u32, &[u8]), Refusal>
+    ensures value { IfOk result (λ f. f.0 ≡ read_on 0 (front line.now)) }
+    ensures rest { IfOk result (λ f. f.1.now ≡ back line.now) }
+    ensures refusal { result_err result ≡ refused (not (is_number (front line.now))) BrokenLine accepted }
+{
+    let (digits, rest) = cut(line, b' ');
+    let value = number(digits).ok_or(Refusal::BrokenLine)?;
+    Ok((value, rest))
 }
 
 // The plan that the first line of a link's text hands in: `B m α L` in decimal, and W or F.
@@ -31,24 +42,10 @@ pub fn read_plan(line: &[u8]) -> Result<Plan, Refusal>
     if line.len() > LONGEST_LINE {
         return Err(Refusal::BrokenLine);
     }
-    let (burst, rest) = cut(line, b' ');
-    let (width, rest) = cut(rest, b' ');
-    let (stretch, rest) = cut(rest, b' ');
-    let (symbols, letter) = cut(rest, b' ');
-    let Some(burst) = number(burst) else {
-        return Err(Refusal::BrokenLine);
-    };
-    let Some(width) = number(width) else {
-        return Err(Refusal::BrokenLine);
-    };
-    let Some(stretch) = number(stretch) else {
-        return Err(Refusal::BrokenLine);
-    };
-    let Some(symbols) = number(symbols) else {
-        return Err(Refusal::BrokenLine);
-    };
-    let Some(arithmetic) = named(letter) else {
-        return Err(Refusal::BrokenLine);
-    };
+    let (burst, rest) = field(line)?;
+    let (width, rest) = field(rest)?;
+    let (stretch, rest) = field(rest)?;
+    let (symbols, letter) = field(rest)?;
+    let arithmetic = named(letter).ok_or(Refusal::BrokenLine)?;
     Plan::new(burst, width, stretch, symbols, arithmetic)
 }

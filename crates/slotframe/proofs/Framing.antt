@@ -1,6 +1,5 @@
 -- What is shown of a frame, and what is read back from it. Assumes nothing.
-use Rattle.std.proofs.Common.{◌≡◌, ℕ, ◌-◌, ◌*◌, ◌/◌, ◌<◌, List, [], ◌++◌, map, length, get_or, take, drop, sym, ap, ◌∙◌, append-nil, arith}
-use native.Mathlib.Nat.{sub-zero}
+use Rattle.std.proofs.Common.{◌≡◌, ℕ, ◌*◌, ◌/◌, ◌<◌, List, [], ◌++◌, map, length, get_or, take, drop, sym, refl, ap, ◌∙◌, append-nil, arith}
 use Rattle.std.specs.List.{range_with_len, flat_map}
 use Rattle.std.proofs.lemmas.List.FromFn.{fill_by_all}
 use Rattle.std.proofs.lemmas.List.{take_at}
@@ -30,14 +29,13 @@ words_of_frame h ns lawful =
 -- the front of bytes that begin with a block's frame, as long as the frame is: its words are the frame's
 pub words_at_front : {S : Type 0} (b : Bytes S) → ByteLaws b → (slot : ℕ) (x : BlockShape) (block : List S) → Within slot x block
     → (bs rest : List ℕ) (n : ℕ) → bs ≡ frame_of b slot x block ++ rest → n ≡ words_of b slot x
-    → words_in (take (4 * n - 0) (drop 0 bs)) ≡ frame_words (head_for b slot x) (flat_map b.write block)
+    → words_in (take (4 * n) bs) ≡ frame_words (head_for b slot x) (flat_map b.write block)
 words_at_front b laws slot x block within bs rest n begins many =
     let lawful = lawful_block b laws slot x block within in
-    let long : length (frame_of b slot x block) ≡ 4 * n - 0 = omega (arith, length_frame (head_for b slot x) (flat_map b.write block) lawful) in
-    ap (λ (l : List ℕ). words_in (take (4 * n - 0) l)) begins ∙ ap words_in (take_at (frame_of b slot x block) rest (4 * n - 0) long)
+    let long : length (frame_of b slot x block) ≡ 4 * n = omega (arith, length_frame (head_for b slot x) (flat_map b.write block) lawful) in
+    ap (λ (l : List ℕ). words_in (take (4 * n) l)) begins ∙ ap words_in (take_at (frame_of b slot x block) rest (4 * n) long)
     ∙ words_of_frame (head_for b slot x) (flat_map b.write block) lawful
 
 -- where a block was laid, there it lies
-pub lies_there : {S : Type 0} (block old new : List S) → LaidOver block old new → take (length block - 0) (drop 0 new) ≡ block
-lies_there {S} block old new laid =
-    ap (take (length block - 0)) laid ∙ take_at block (drop (length block) old) (length block - 0) (sym (sub-zero (length block)))
+pub lies_there : {S : Type 0} (block old new : List S) → LaidOver block old new → take (length block) new ≡ block
+lies_there block old new laid = ap (take (length block)) laid ∙ take_at block (drop (length block) old) (length block) refl

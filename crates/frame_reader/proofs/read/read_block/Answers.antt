@@ -8,7 +8,7 @@ pub loop-i-preserved : goal.loop-i-preserved
 loop-i-preserved g c =
     let b = g.A.Arithmetic.bytes in
     let bs = c.args.bytes.now in
-    let old = c.args.out.now in
+    let old = c.args.block.now in
     let i = c.loop-i.i in
     let x = c.symbol_at.result in
     let more : block_in b bs i ++ x ∷ [] ≡ block_in b bs (i + 1) =

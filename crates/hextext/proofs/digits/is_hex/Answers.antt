@@ -1,22 +1,14 @@
-use Rattle.std.proofs.Common.{◌≡◌, ◌%◌, true, false, eqb, length, sym, ◌∙◌}
-use Rattle.std.proofs.lemmas.List.{at_drop_all}
-use Rattle.std.proofs.lemmas.Bool.{and_from, and_right, eq-eqb}
-use Rattle.hextext.specs.Digits.{all_digits}
-use Rattle.hextext.proofs.Checks.{digits_turn}
+use Rattle.std.proofs.Common.{◌≡◌, rules, tests, ◌∙◌}
+use Rattle.std.specs.List.{list_all}
+use Rattle.std.proofs.lemmas.Iterator.{YieldsList-from_slice}
+use Rattle.std.proofs.lemmas.Iterator.Search.{all_from_yields_List}
+use Rattle.hextext.specs.Digits.{is_hex_digit}
+use Rattle.hextext.proofs.Checks.{hex_is}
 use Rattle.hextext.proofs.digits.is_hex.Goals as goal
 
-pub returns-then-not-is_digit : goal.returns-then-not-is_digit
-returns-then-not-is_digit c =
-    let cs = c.args.text.now in
-    let fails = digits_turn cs c.loop-c.c-index false c.loop-c-test.true (sym c.if-not-is_digit.ensures) c.loop-c.invariant in
-    sym (and_right (eqb (length cs % 2) 0) (all_digits cs) fails)
-
-pub loop-c-preserved : goal.loop-c-preserved
-loop-c-preserved c =
-    sym (digits_turn c.args.text.now c.loop-c.c-index true c.loop-c-test.true (sym c.if-not-is_digit.ensures) c.loop-c.invariant)
-
-pub returns : goal.returns
-returns c =
-    let cs = c.args.text.now in
-    let all : all_digits cs ≡ true = sym c.loop-c.invariant ∙ at_drop_all all_digits cs c.loop-c.c-index c.loop-c-test.false in
-    sym (and_from (eqb (length cs % 2) 0) (all_digits cs) (eq-eqb (length cs % 2) 0 c.if-text-ne0.false) all)
+pub returns-then-text-eq0 : goal.returns-then-text-eq0
+returns-then-text-eq0 c =
+    let text = c.args.text.now in
+    let is : c.all.result ≡ list_all is_hex_digit text =
+    all_from_yields_List is_hex_digit _ _ c.all.result c.all.ensures.ran (YieldsList-from_slice text cc) (λ x b q k. search (rules, tests)) in
+    is ∙ hex_is text c.if-text-eq0.true

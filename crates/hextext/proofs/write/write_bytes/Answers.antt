@@ -1,18 +1,10 @@
-use Rattle.std.proofs.Common.{string_bytes, sym, ◌∙◌}
-use Rattle.hextext.proofs.Cuts.{at_err, seam, cut_back}
+use Rattle.std.proofs.Common.{rules}
+use Rattle.std.specs.List.{flat_map}
+use Rattle.hextext.specs.Digits.{byte_text}
 use Rattle.hextext.proofs.write.write_bytes.Goals as goal
 
-pub truncate-requires : goal.truncate-requires
-truncate-requires c =
-    let before = c.args.text.now in
-    let after = c.push_bytes-written.new.text in
-    λ _.
-    seam (string_bytes before) (string_bytes after) c.len-end.result (c.len-end.ensures ∙ before.bytes.ok.0) before.ok after.ok
-    (at_err c.push_bytes-written.result _ _ _ (sym c.is_err.ensures.value ∙ c.if-is_err.true) c.push_bytes-written.ensures)
+pub whole-requires-clause-begun : goal.whole-requires-clause-begun
+whole-requires-clause-begun c = (flat_map byte_text c.args.bytes.now, λ r now k. search rules)
 
-pub returns-then-is_err : goal.returns-then-is_err
-returns-then-is_err c =
-    let before = c.args.text.now in
-    cut_back c.push_bytes-written.result _ (string_bytes before) (string_bytes c.push_bytes-written.new.text)
-    (string_bytes c.truncate.new.self) c.len-end.result (sym c.is_err.ensures.value ∙ c.if-is_err.true)
-    (c.len-end.ensures ∙ before.bytes.ok.0) c.push_bytes-written.ensures c.truncate.ensures.bytes
+pub returns : goal.returns
+returns c = c.whole.ensures (flat_map byte_text c.args.bytes.now) (λ r now k. search rules)

@@ -1,18 +1,9 @@
-use Rattle.std.proofs.Common.{string_bytes, sym, ◌∙◌}
-use Rattle.hextext.proofs.Cuts.{at_err, seam, cut_back}
+use Rattle.std.proofs.Common.{rules}
+use Rattle.hextext.specs.Packet.{packet_text}
 use Rattle.hextext.proofs.write.write_packet.Goals as goal
 
-pub truncate-requires : goal.truncate-requires
-truncate-requires g c =
-    let before = c.args.text.now in
-    let after = c.push_symbols-written.new.text in
-    λ _.
-    seam (string_bytes before) (string_bytes after) c.len-before.result (c.len-before.ensures ∙ before.bytes.ok.0) before.ok after.ok
-    (at_err c.push_symbols-written.result _ _ _ (sym c.is_err.ensures.value ∙ c.if-is_err.true) c.push_symbols-written.ensures)
+pub whole-requires-clause-begun : goal.whole-requires-clause-begun
+whole-requires-clause-begun g c = (packet_text g.A.Arithmetic.bytes c.args.symbols.now, λ r now k. search rules)
 
-pub returns-then-is_err : goal.returns-then-is_err
-returns-then-is_err g c =
-    let before = c.args.text.now in
-    cut_back c.push_symbols-written.result _ (string_bytes before) (string_bytes c.push_symbols-written.new.text)
-    (string_bytes c.truncate.new.self) c.len-before.result (sym c.is_err.ensures.value ∙ c.if-is_err.true)
-    (c.len-before.ensures ∙ before.bytes.ok.0) c.push_symbols-written.ensures c.truncate.ensures.bytes
+pub returns : goal.returns
+returns g c = c.whole.ensures (packet_text g.A.Arithmetic.bytes c.args.symbols.now) (λ r now k. search rules)

@@ -1,21 +1,23 @@
-use Rattle.std.proofs.Common.{◌+◌, length, ◌∙◌, arith}
-use native.Mathlib.Nat.{sub-zero}
-use Rattle.std.proofs.lemmas.List.{take_rest, drop_all}
-use Rattle.linktext.proofs.Cutting.{passed_more, passed_here, passed_all}
+use Rattle.std.proofs.Common.{rules, tests, ◌≡◌, ◌+◌, eqb, sym, ◌∙◌}
+use Rattle.std.specs.List.{position}
+use Rattle.std.proofs.lemmas.Iterator.{YieldsList-from_slice}
+use Rattle.std.proofs.lemmas.Iterator.Search.{position_from_yields_List}
+use Rattle.std.proofs.lemmas.List.{take_rest}
+use Rattle.linktext.proofs.Cutting.{cut_here, no_cut}
 use Rattle.linktext.proofs.fields.cut.Goals as goal
 
-pub returns-then-line-i : goal.returns-then-line-i
-returns-then-line-i c =
+pub returns-in-Some : goal.returns-in-Some
+returns-in-Some c =
     let line = c.args.line.now in
-    let i = c.loop-i.i in
-    let found = passed_here c.args.mark line i c.loop-i-test.true c.if-line-i.true c.loop-i.invariant in
-    record { first = simp sub-zero found.0; rest = take_rest line (i + 1) ∙ found.1 }
+    let is : c.position.result ≡ position (λ x. eqb x c.args.mark) line =
+    position_from_yields_List (λ x. eqb x c.args.mark) _ _ c.position.result c.position.ensures.ran (YieldsList-from_slice line cc) (λ x b q k. search (rules, tests)) in
+    let both = cut_here c.args.mark line c.in-Some.i (sym c.in-Some.is ∙ is) in
+    record { first = both.0; rest = take_rest line (c.in-Some.i + 1) ∙ both.1 }
 
-pub loop-i-preserved : goal.loop-i-preserved
-loop-i-preserved c = passed_more c.args.mark c.args.line.now c.loop-i.i c.loop-i-test.true c.if-line-i.false c.loop-i.invariant
-
-pub returns : goal.returns
-returns c =
+pub returns-in-None : goal.returns-in-None
+returns-in-None c =
     let line = c.args.line.now in
-    let whole = passed_all c.args.mark line c.loop-i.i c.loop-i-test.false c.loop-i.invariant in
-    record { first = whole.0; rest = take_rest line (length line) ∙ drop_all (length line) line (omega arith) ∙ whole.1 }
+    let is : c.position.result ≡ position (λ x. eqb x c.args.mark) line =
+    position_from_yields_List (λ x. eqb x c.args.mark) _ _ c.position.result c.position.ensures.ran (YieldsList-from_slice line cc) (λ x b q k. search (rules, tests)) in
+    let both = no_cut c.args.mark line (sym c.in-None.is ∙ is) in
+    record { first = both.0; rest = both.1 }

@@ -7,5 +7,5 @@ pub returns : goal.returns
 returns c =
     let plan = c.args.plan.now in
     IfOk-weaker c.format.result _ (λ s. string_bytes s ≡ text_of_plan plan.burst plan.width plan.stretch plan.symbols plan.arithmetic)
-    (λ s e. e ∙ rw (c.burst-burst.ensures, c.width-width.ensures, c.stretch-stretch.ensures, c.symbols-symbols.ensures, c.name_text-name.ensures, c.arithmetic.ensures) refl)
+    (λ s e. e ∙ rw (c.burst-burst.ensures.value, c.width-width.ensures.value, c.stretch-stretch.ensures.value, c.symbols-symbols.ensures.value, c.arithmetic-name.ensures) refl)
     c.format.ensures.ok

@@ -1,33 +1,24 @@
-use Rattle.std.proofs.Common.{◌≡◌, ℕ, List, [], ◌∷◌, ◌++◌, take, drop, string_bytes, sym, ap, ◌∙◌, ap₂, append_assoc, lit<}
-use native.Mathlib.Nat.{sub-zero}
-use Rattle.std.proofs.lemmas.List.{take-append-drop, take_rest}
+use Rattle.std.proofs.Common.{◌≡◌, ℕ, List, ◌∷◌, ◌++◌, take, drop, string_bytes, sym, ap, ◌∙◌, ap₂}
+use Rattle.std.proofs.lemmas.List.{take-append-drop}
+use Rattle.std.proofs.lemmas.Result.{IfOk-weaker}
 use Rattle.linktext.specs.Lines.{text_of_slot}
 use Rattle.slotframe.specs.Shown.{framed_text, slot_shown}
 use Rattle.slotframe.proofs.show.show_slot.Goals as goal
 
-pub returns : goal.returns
+pub returns-clause-shown : goal.returns-clause-shown
 unfolding slot_shown
-returns g c =
+returns-clause-shown g c =
     let S = g.row.A-Sym.Denot in
     let b = g.A.Arithmetic.bytes in
-    let slot = c.args.slot in
-    let shape = c.args.shape in
-    let size = c.args.size in
-    let block = c.args.block.now in
-    let packet = take size block in
-    let parities = drop size block in
-    let first = string_bytes c.in_ok-text.text in
-    let end = c.in_ok-push.ensures in
-    let front : first ≡ text_of_slot b slot packet parities =
-    c.in_ok-text.ensures
-    ∙ ap₂ (λ (p q : List S). text_of_slot b slot p q) (ap (λ (n : ℕ). take n block) (sub-zero size)) (take_rest block size) in
-    let ended : string_bytes c.push.new.self ≡ text_of_slot b slot packet parities ++ (10 ∷ []) =
-    end.bytes ∙ ap₂ (λ (s t : List ℕ). s ++ t) front (end.ascii (lit< tt)) in
-    let framed : c.as_str.result.now ≡ framed_text b slot shape (packet ++ parities) =
-    c.as_str.ensures.value ∙ c.in_ok-framed.ensures.shown ∙ ap (framed_text b slot shape) (sym (take-append-drop size block)) in
-    record {
-      shown = c.in_ok-push_str.ensures.bytes ∙ ap₂ (λ (s t : List ℕ). s ++ t) ended framed
-          ∙ append_assoc (text_of_slot b slot packet parities) (10 ∷ []) (framed_text b slot shape (packet ++ parities));
-      written = c.in_ok-framed.ensures.written;
-      read = c.in_ok-framed.ensures.read;
-    }
+    let sent = c.args.frame.now in
+    let packet = take c.args.size sent.block.now in
+    let parities = drop c.args.size sent.block.now in
+    let front : string_bytes c.in_ok-slot.slot ≡ text_of_slot b sent.slot packet parities =
+    c.in_ok-slot.ensures ∙ ap₂ (λ (p q : List S). text_of_slot b sent.slot p q) c.split_at.ensures.front c.split_at.ensures.back in
+    let framed : string_bytes c.in_ok-framed.framed ≡ framed_text b sent.slot sent.shape (packet ++ parities) =
+    c.in_ok-framed.ensures.shown ∙ ap (framed_text b sent.slot sent.shape) (sym (take-append-drop c.args.size sent.block.now)) in
+    IfOk-weaker c.format.result _ (λ s. string_bytes s ≡ slot_shown b sent.slot sent.shape packet parities)
+    (λ s e.
+    let printed : string_bytes s ≡ string_bytes c.in_ok-slot.slot ++ (10 ∷ string_bytes c.in_ok-framed.framed) = e in
+    printed ∙ ap₂ (λ (t u : List ℕ). t ++ (10 ∷ u)) front framed)
+    c.format.ensures.ok

@@ -1,6 +1,0 @@
-use Rattle.std.proofs.Common.{arith}
-use Rattle.std.proofs.lemmas.Nat.{or_shifted}
-use Rattle.frame_writer.proofs.write.count_word.Goals as goal
-
-pub returns : goal.returns
-returns c = or_shifted 4 28 c.args.words (omega arith)
