@@ -1,15 +1,15 @@
-ghost use Rattle.std.specs.Prelude.{◌≡◌, ◌≤◌, ◌⊎◌, ◌++◌, length, take, drop};
+ghost use Rattle.std.specs.Prelude.{◌≡◌, ◌≤◌, ◌⊎◌, ◌++◌, length, drop};
 
-// The oldest packet of the first `kept` symbols goes, the new one comes behind the youngest.
-pub(crate) fn advance<T: Copy>(history: &mut [T], kept: usize, packet: &[T])
-    requires within { kept ≤ length history.old }
-    requires whole { (kept ≡ 0) ⊎ (length packet.now ≤ kept) }
-    ensures { history.new ≡ drop (length packet.now) (take kept history.old ++ packet.now) ++ drop kept history.old }
+// The oldest packet goes, the new one comes behind the youngest.
+pub(crate) fn advance<T: Copy>(history: &mut [T], packet: &[T])
+    requires { (length history.old ≡ 0) ⊎ (length packet.now ≤ length history.old) }
+    ensures { history.new ≡ drop (length packet.now) (history.old ++ packet.now) }
 {
-    if kept == 0 {
+    if history.is_empty() {
         return;
     }
     let size = packet.len();
-    history[0..kept].rotate_left(size);
-    history[kept - size..kept].copy_from_slice(packet);
+    let kept = history.len() - size;
+    history.copy_within(size.., 0);
+    history[kept..].copy_from_slice(packet);
 }

@@ -1,24 +1,27 @@
-ghost use Rattle.std.specs.Prelude.{◌≡◌, ◌+◌, ◌≤◌, length, IfOk, OnErr, OnOk};
+ghost use Rattle.std.specs.Prelude.{◌≡◌, ◌+◌, ◌≤◌, false, length, IfOk, OnErr, OnOk};
 ghost use Rattle.std.specs.Result.{result_err};
-ghost use Rattle.sender.specs.Block.{block_of, history_after, written_over};
+ghost use Rattle.codes.specs.Shape.{unfit, packet_size, block_size};
+ghost use Rattle.sender.specs.Block.{history_size, block_of, history_after, written_over};
 ghost use Rattle.sender.specs.Limits.{making_refusal, send_refusal};
 
-use crate::block::write_block;
 use crate::history::advance;
+use crate::window::Window;
 use arithmetic::arithmetic::Arithmetic;
 use codes::code::Code;
+use codes::limits::Symbols;
 use codes::link::{LAST_SLOT, unfit};
 use refusal::Refusal;
 use std::marker::PhantomData;
 
 // The sending end of one link: its code, the symbols of a sub-symbol, and the slot that comes next.
 #[derive(Drop)]
-pub struct Sender<A, C> {
+pub struct Sender<A: Arithmetic, C: Code<A::Coef>> {
     arithmetic: PhantomData<A>,
     code: C,
-    symbols: u32,
+    symbols: Symbols,
     next: u32,
-    ghost ok: { (1 ≤ symbols) × (symbols ≤ 32) × (next ≤ 268435456) },
+    ghost fit: { unfit (C.Code.shape code) ≡ false },
+    ghost ok: { next ≤ 268435456 },
 }
 
 impl<A: Arithmetic, C: Code<A::Coef> + Drop> Sender<A, C> {
@@ -27,9 +30,7 @@ impl<A: Arithmetic, C: Code<A::Coef> + Drop> Sender<A, C> {
         ensures refusal { result_err result ≡ making_refusal (C.Code.shape code) symbols }
         ensures made { IfOk result (λ s. (s.code ≡ code) × (s.symbols ≡ symbols) × (s.next ≡ 0)) }
     {
-        if symbols < 1 || symbols > 32 {
-            return Err(Refusal::OutsideLimits);
-        }
+        let symbols = Symbols::new(symbols)?;
         if unfit::<A::Coef, C>(&code) {
             return Err(Refusal::UnfitShape);
         }
@@ -46,6 +47,28 @@ impl<A: Arithmetic, C: Code<A::Coef> + Drop> Sender<A, C> {
         ensures { result ≡ self.now.next }
     {
         self.next
+    }
+
+    // The symbols of a packet.
+    pub fn packet_size(&self) -> usize
+        ensures value { result ≡ packet_size (C.Code.shape self.now.code) self.now.symbols }
+        ensures bound { result ≤ 256 }
+    {
+        self.code.sources() as usize * self.symbols.value() as usize
+    }
+
+    // The symbols of the history: it holds as many packets as the code's memory says.
+    pub fn history_size(&self) -> usize
+        ensures { result ≡ history_size (C.Code.shape self.now.code) self.now.symbols }
+    {
+        self.code.memory() as usize * self.packet_size()
+    }
+
+    // The symbols of a block: a packet and its parities.
+    pub fn block_size(&self) -> usize
+        ensures { result ≡ block_size (C.Code.shape self.now.code) self.now.symbols }
+    {
+        self.packet_size() + self.code.parities() as usize * self.symbols.value() as usize
     }
 
     // Sends the packet of this slot, which must be the next one: the block goes to the output, and the history,
@@ -66,19 +89,14 @@ impl<A: Arithmetic, C: Code<A::Coef> + Drop> Sender<A, C> {
         if slot > LAST_SLOT {
             return Err(Refusal::OutsideLimits);
         }
-        if unfit::<A::Coef, C>(&self.code) {
-            return Err(Refusal::UnfitShape);
-        }
-        let symbols = self.symbols as usize;
-        let size = self.code.sources() as usize * symbols;
-        let kept = self.code.memory() as usize * size;
+        let kept = self.history_size();
         if history.len() < kept {
             return Err(Refusal::ShortMemory);
         }
-        if packet.len() != size {
+        if packet.len() != self.packet_size() {
             return Err(Refusal::OtherLength);
         }
-        if out.len() < size + self.code.parities() as usize * symbols {
+        if out.len() < self.block_size() {
             return Err(Refusal::ShortOutput);
         }
         if slot < self.next {
@@ -87,8 +105,14 @@ impl<A: Arithmetic, C: Code<A::Coef> + Drop> Sender<A, C> {
         if slot > self.next {
             return Err(Refusal::SlotAbove);
         }
-        write_block::<A, C>(&self.code, symbols, history, packet, out);
-        advance(history, kept, packet);
+        let window = Window::<A, C> {
+            code: &self.code,
+            symbols: self.symbols.value() as usize,
+            history,
+            packet,
+        };
+        window.write_block(out);
+        advance(&mut history[..kept], packet);
         self.next = slot + 1;
         Ok(())
     }

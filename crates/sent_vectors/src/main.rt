@@ -1,7 +1,7 @@
 // Compares what is printed for many links with what an independent program computed: `data/README.md` says how.
 #![tactic(auto)]
 
-use anyhow::anyhow;
+use anyhow::bail;
 use std::alloc::{AllocError, Global};
 use std::fs;
 use transcript::whole::transcript;
@@ -11,25 +11,21 @@ fn agrees(heap: Global, text: &str, expected: &str) -> Result<bool, AllocError> 
     Ok(shown.as_str() == expected)
 }
 
-fn push_line(text: &mut String, line: &str) -> Result<(), AllocError> {
-    text.push_str(line)?;
-    text.push('\n')
-}
-
 fn run(rt: &HostRuntime) -> anyhow::Result<()> {
     let vectors = fs::read_to_string(rt, "vectors.txt")?;
     let mut text = String::new(rt.alloc());
     let mut expected = String::new(rt.alloc());
+    // Counted, since a link is as many lines as it has.
     let mut links: u32 = 0;
     for line in vectors.lines() {
         if let Some(handed_in) = line.strip_prefix('<') {
-            push_line(&mut text, handed_in)?;
+            writeln!(text, "{handed_in}")?;
         } else if let Some(printed) = line.strip_prefix('>') {
-            push_line(&mut expected, printed)?;
+            writeln!(expected, "{printed}")?;
         } else {
-            if !agrees(rt.alloc(), text.as_str(), expected.as_str())? {
+            if !agrees(rt.alloc(), &text, &expected)? {
                 println!(rt; "link {links} differs")?;
-                return Err(anyhow!("what is printed differs from the vectors"));
+                bail!("what is printed differs from the vectors");
             }
             links = links.saturating_add(1);
             text.clear();

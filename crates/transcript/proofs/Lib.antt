@@ -1,4 +1,2 @@
 pub mod LineForm
-pub mod PlanSizes
-pub mod Runs
 pub mod Turns

@@ -8,7 +8,7 @@ use linktext::plan_line::LONGEST_LINE;
 use refusal::Refusal;
 use std::alloc::Global;
 
-// The packet that a line hands in for this slot, of so many symbols.
+// The packet that a line hands in for this slot, of so many symbols: it knows no sender that could tell.
 pub(crate) fn read_line<A: Arithmetic>(
     heap: Global,
     line: &[u8],
@@ -18,24 +18,22 @@ pub(crate) fn read_line<A: Arithmetic>(
     ensures { LineReads A.Arithmetic.bytes size slot line.now result }
 {
     if line.len() > LONGEST_LINE {
-        return Err(ReadError::Refused(Refusal::BrokenLine));
+        return Err(Refusal::BrokenLine.into());
     }
+    // Tried with `?` in a last arm: where the arms meet the proof does not know what was read, and did not close (`returns`).
     let packet = match read_packet::<A>(heap, line) {
         Ok(packet) => packet,
         // The slot's limit comes before the packet's length.
-        Err(ReadError::Refused(Refusal::OtherLength)) => {
-            if slot > LAST_SLOT {
-                return Err(ReadError::Refused(Refusal::OutsideLimits));
-            }
-            return Err(ReadError::Refused(Refusal::OtherLength));
+        Err(ReadError::Refused(Refusal::OtherLength)) if slot > LAST_SLOT => {
+            return Err(Refusal::OutsideLimits.into());
         }
         Err(e) => return Err(e),
     };
     if slot > LAST_SLOT {
-        return Err(ReadError::Refused(Refusal::OutsideLimits));
+        return Err(Refusal::OutsideLimits.into());
     }
     if packet.len() != size {
-        return Err(ReadError::Refused(Refusal::OtherLength));
+        return Err(Refusal::OtherLength.into());
     }
     Ok(packet)
 }

@@ -1,48 +1,48 @@
 ghost use Rattle.std.specs.Prelude.{◌≡◌, [], ◌∷◌, ◌++◌, IfOk, string_bytes};
 ghost use Rattle.linktext.specs.Fields.{lines_of};
-ghost use Rattle.linktext.specs.Lines.{text_of_refusal};
-ghost use Rattle.transcript.specs.Transcript.{SentIn, Transcript as TranscriptOf, heading};
+ghost use Rattle.transcript.specs.Transcript.{SentBy, SentIn, Transcript as TranscriptOf, heading};
 
-use crate::packets::send_packets;
-use crate::text::push_line;
+use crate::lines::Lines;
+use crate::link::Link;
+use crate::refusing::with_refusal;
+use arithmetic::arithmetic::Arithmetic;
 use byte::{Byte, ByteArithmetic};
-use linktext::fields::cut;
-use linktext::lines::{plan_text, refusal_text, shape_text};
+use linktext::lines::{plan_text, shape_text};
 use linktext::plan_line::read_plan;
-use plan::{ArithmeticName, Plan};
+use plan::{ArithmeticName, Plan, PlanCode};
 use refusal::Refusal;
+use sender::sender::Sender;
 use std::alloc::{AllocError, Global};
 use word::WordArithmetic;
-
-// The refusal of the first line, alone.
-fn unplanned(heap: Global, why: Refusal) -> Result<String, AllocError>
-    ensures { IfOk result (λ s. string_bytes s ≡ text_of_refusal why 1 ++ (10 ∷ [])) }
-{
-    let mut out = String::new(heap);
-    let words = refusal_text(heap, why, 1)?;
-    push_line(&mut out, words.as_str())?;
-    Ok(out)
-}
 
 // The two lines on the plan.
 fn plan_heading(heap: Global, plan: &Plan) -> Result<String, AllocError>
     ensures { IfOk result (λ s. string_bytes s ≡ heading plan.now.burst plan.now.width plan.now.stretch plan.now.symbols plan.now.arithmetic) }
 {
-    let mut out = String::new(heap);
     let handed_in = plan_text(heap, plan)?;
-    push_line(&mut out, handed_in.as_str())?;
     let follows = shape_text::<Byte>(heap, plan)?;
-    push_line(&mut out, follows.as_str())?;
-    Ok(out)
+    format!(in heap; "{handed_in}\n{follows}\n")
 }
 
-// The packets, sent in the arithmetic that the plan names.
-fn send_in(heap: Global, plan: &Plan, text: &[u8]) -> Result<String, AllocError>
-    ensures { IfOk result (λ s. SentIn plan.now.arithmetic plan.now.burst plan.now.width plan.now.stretch plan.now.symbols (lines_of text.now) (string_bytes s)) }
+// Sends the packets of a plan's link, a line each, from slot 0 on a history of zeros.
+fn send_packets<A: Arithmetic>(
+    heap: Global,
+    plan: &Plan,
+    lines: Lines<'_>,
+) -> Result<String, AllocError>
+    ensures { IfOk result (λ s. SentBy A.Arithmetic.operations A.Arithmetic.bytes plan.now.burst plan.now.width plan.now.stretch plan.now.symbols (lines_of lines.entry.rest.now) (string_bytes s)) }
+{
+    let sender = Sender::<A, PlanCode>::new(plan.code(), plan.symbols()).unwrap();
+    Link::<A, PlanCode>::new(heap, sender)?.answer_lines(lines)
+}
+
+// The packets, sent in the arithmetic that the plan names: the same call at another type.
+fn send_in(heap: Global, plan: &Plan, lines: Lines<'_>) -> Result<String, AllocError>
+    ensures { IfOk result (λ s. SentIn plan.now.arithmetic plan.now.burst plan.now.width plan.now.stretch plan.now.symbols (lines_of lines.entry.rest.now) (string_bytes s)) }
 {
     match plan.arithmetic() {
-        ArithmeticName::Word => send_packets::<WordArithmetic>(heap, plan, text),
-        ArithmeticName::Byte => send_packets::<ByteArithmetic>(heap, plan, text),
+        ArithmeticName::Word => send_packets::<WordArithmetic>(heap, plan, lines),
+        ArithmeticName::Byte => send_packets::<ByteArithmetic>(heap, plan, lines),
     }
 }
 
@@ -50,17 +50,13 @@ fn send_in(heap: Global, plan: &Plan, text: &[u8]) -> Result<String, AllocError>
 pub fn transcript(heap: Global, text: &[u8]) -> Result<String, AllocError>
     ensures { IfOk result (λ s. TranscriptOf (lines_of text.now) (string_bytes s)) }
 {
-    if text.is_empty() {
-        return unplanned(heap, Refusal::BrokenLine);
-    }
-    let (first, rest) = cut(text, b'\n');
-    match read_plan(first) {
-        Ok(plan) => {
-            let mut out = plan_heading(heap, &plan)?;
-            let sent = send_in(heap, &plan, rest)?;
-            out.push_str(sent.as_str())?;
-            Ok(out)
-        }
-        Err(why) => unplanned(heap, why),
-    }
+    let mut lines = Lines::new(text);
+    let first = lines.next().ok_or(Refusal::BrokenLine);
+    let plan = match first.and_then(read_plan) {
+        Ok(plan) => plan,
+        Err(why) => return with_refusal(heap, String::new(heap), why, 1),
+    };
+    let mut out = plan_heading(heap, &plan)?;
+    out.push_str(send_in(heap, &plan, lines)?.as_str())?;
+    Ok(out)
 }

@@ -6,9 +6,10 @@ pub returns-then-len-size : goal.returns-then-len-size
 returns-then-len-size g c =
     let xs = c.in-Ok.packet in
     let read = c.in-Ok.ensures in
-    line_other g.A.Arithmetic.bytes g.met.A.Arithmetic.strings c.args.size c.args.slot c.args.line.now (vec_items xs)
+    rw c.into-then-len-size.ensures
+    (line_other g.A.Arithmetic.bytes g.met.A.Arithmetic.strings c.args.size c.args.slot c.args.line.now (vec_items xs)
     c.if-line-gt-LONGEST_LINE.false c.if-slot-gt-LAST_SLOT-2.false read.0 read.1
-    (λ e. c.if-len-size.true (c.len.ensures ∙ xs.ok.0 ∙ e))
+    (λ e. c.if-len-size.true (c.len.ensures ∙ xs.ok.0 ∙ e)))
 
 pub returns : goal.returns
 returns g c =

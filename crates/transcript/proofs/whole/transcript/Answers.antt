@@ -1,31 +1,51 @@
-use Rattle.std.proofs.Common.{ℕ, List, ◌++◌, length, string_bytes, sym, ap, ◌∙◌}
+use Rattle.std.proofs.Common.{◌≡◌, ℕ, List, [], ◌++◌, string_bytes, sym, Option, Some, None, inl, inr, ◌⊎◌, Err, refl}
+use Rattle.std.specs.Prelude.{Result}
+use Rattle.std.specs.Result.{MatchResult}
+use Rattle.std.specs.Option.{ok_or}
 use Rattle.std.proofs.lemmas.Result.{IfOk-weaker}
-use Rattle.std.proofs.lemmas.Bool.{eqb-true}
+use Rattle.refusal.specs.declared.Refusal.{Refusal}
+use Rattle.refusal.specs.declared.Refusal.TheVariants.{BrokenLine}
 use Rattle.linktext.specs.Fields.{lines_of}
-use Rattle.linktext.proofs.Cutting.{some_left}
 use Rattle.transcript.specs.Transcript.{Transcript}
-use Rattle.transcript.proofs.Runs.{nothing_run, unplanned_run, planned_run}
+use Rattle.transcript.specs.Transcript.Transcript.{nothing, unplanned, planned}
 use Rattle.transcript.proofs.whole.transcript.Goals as goal
 
-pub returns-then-is_empty : goal.returns-then-is_empty
-returns-then-is_empty c =
-    let text = c.args.text.now in
-    IfOk-weaker c.unplanned.result _ (λ s. Transcript (lines_of text) (string_bytes s))
-    (λ s e. nothing_run text (string_bytes s) (eqb-true (length text) 0 (sym c.if-is_empty.ensures)) e) c.unplanned.ensures
+-- the first line, if there is one, was handed on; where there is none, its want is the refusal
+handed_on : {X P : Type 0} (r : Option X) (first : Result X Refusal) (made : Result P Refusal) (Post : X → Type 0)
+    → first ≡ ok_or r BrokenLine → MatchResult first Post (λ e. made ≡ Err e)
+    → ((r ≡ None) × (made ≡ Err BrokenLine)) ⊎ ((x : X) × ((r ≡ Some x) × Post x))
+handed_on None first made Post is m = inl (refl, rw is at m)
+handed_on (Some x) first made Post is m = inr (x, (refl, rw is at m))
+
+-- shown for these lines, behind nothing
+alone : {lines these : List (List ℕ)} {before out shown : List ℕ} → lines ≡ these → before ≡ [] → out ≡ before ++ shown → Transcript these shown → Transcript lines out
+alone same none is run = rw (same, is, none) run
 
 pub returns-in-Err : goal.returns-in-Err
 returns-in-Err c =
-    let text = c.args.text.now in
-    IfOk-weaker c.unplanned-in-Err.result _ (λ s. Transcript (lines_of text) (string_bytes s))
-    (λ s e. unplanned_run text c.cut.result.0.now c.cut.result.1.now (some_left text c.if-is_empty.ensures)
-    c.cut.ensures.first c.cut.ensures.rest (string_bytes s) c.in-Err.why c.in-Err.ensures.refusal e) c.unplanned-in-Err.ensures
+    let why = c.in-Err.why in
+    elim (handed_on c.next.result c.ok_or-first.result c.and_then.result _ c.ok_or-first.ensures.value c.and_then.ensures) [
+      | inl n ↦
+          let lines = rw (c.new-lines.ensures) at ((rw n.0 at c.next.ensures.steps).0) in
+          let broken : why ≡ BrokenLine = cc (n.1, c.in-Err.is) in
+          IfOk-weaker c.with_refusal.result _ (λ s. Transcript (lines_of c.args.text.now) (string_bytes s))
+          (λ s is. alone lines c.new.ensures.bytes (rw broken at is) nothing) c.with_refusal.ensures
+      | inr x ↦
+          let lines = rw (c.new-lines.ensures) at (rw x.1.0 at c.next.ensures.steps) in
+          let refused = rw c.in-Err.is at x.1.1.0 in
+          IfOk-weaker c.with_refusal.result _ (λ s. Transcript (lines_of c.args.text.now) (string_bytes s))
+          (λ s is. alone lines c.new.ensures.bytes is (unplanned why (sym refused))) c.with_refusal.ensures
+    ]
 
-pub returns-in_ok-push_str-in-Ok : goal.returns-in_ok-push_str-in-Ok
-returns-in_ok-push_str-in-Ok c =
-    let text = c.args.text.now in
+pub returns : goal.returns
+returns c =
     let plan = c.in-Ok.plan in
-    planned_run text c.cut.result.0.now c.cut.result.1.now (some_left text c.if-is_empty.ensures)
-    c.cut.ensures.first c.cut.ensures.rest (string_bytes c.in_ok-out-in-Ok.out) (string_bytes c.in_ok-sent-in-Ok.sent) (string_bytes c.push_str.new.self)
-    plan.burst plan.width plan.stretch plan.symbols plan.arithmetic c.in-Ok.ensures.refusal c.in-Ok.ensures.made
-    c.in_ok-sent-in-Ok.ensures c.in_ok-out-in-Ok.ensures
-    (c.in_ok-push_str-in-Ok.ensures.bytes ∙ ap (λ (t : List ℕ). string_bytes c.in_ok-out-in-Ok.out ++ t) c.as_str.ensures.value)
+    elim (handed_on c.next.result c.ok_or-first.result c.and_then.result _ c.ok_or-first.ensures.value c.and_then.ensures) [
+      | inl n ↦ absurd (cc (n.1, c.in-Ok.is))
+      | inr x ↦
+          let lines = rw (c.new-lines.ensures) at (rw x.1.0 at c.next.ensures.steps) in
+          let read = rw c.in-Ok.is at x.1.1.0 in
+          let says = rw c.in-Ok.is at x.1.1.1 in
+          rw (lines, c.in_ok-push_str.ensures.bytes, c.as_str.ensures.value, c.in_ok-out.ensures)
+          (planned (string_bytes c.in_ok-send_in.field-0) plan.burst plan.width plan.stretch plan.symbols plan.arithmetic (sym read) says c.in_ok-send_in.ensures)
+    ]

@@ -1,0 +1,84 @@
+ghost use Rattle.std.specs.Prelude.{◌≡◌, ◌+◌, ◌*◌, ◌<◌, ◌≤◌, false, ◌++◌, length, take, drop};
+ghost use Rattle.codes.specs.Shape.{block_size, unfit};
+ghost use Rattle.codes.specs.Parity.{sum_of_age, parity as parity_spec};
+ghost use Rattle.sender.specs.Block.{recent, Fits, block_of, parities_of, written_over};
+
+use arithmetic::arithmetic::Arithmetic;
+use arithmetic::combine::{add, add_scaled, no_terms};
+use codes::code::Code;
+
+// What the block of a slot is made from: the code, the packet, and the packets before it.
+#[derive(Drop)]
+pub(crate) struct Window<'a, A: Arithmetic, C: Code<A::Coef>> {
+    pub code: &'a C,
+    // As an index, since it is a factor of each.
+    pub symbols: usize,
+    pub history: &'a [A::Sym],
+    pub packet: &'a [A::Sym],
+    ghost some: { 1 ≤ symbols },
+    ghost fit: { unfit (C.Code.shape code.now) ≡ false },
+    ghost fits: { Fits (C.Code.shape code.now) symbols (length history.now) (length packet.now) },
+}
+
+impl<A: Arithmetic, C: Code<A::Coef>> Window<'_, A, C> {
+    // Symbol `at` of sub-symbol `sub` of the packet `age` slots ago. That `at` is below L is asked of each call, here and below: it is about an argument.
+    fn recent_symbol(&self, age: u32, sub: u32, at: usize) -> A::Sym
+        requires place { (age ≤ (C.Code.shape self.now.code.now).memory) × (sub < (C.Code.shape self.now.code.now).sources) × (at < self.now.symbols) }
+        ensures { result ≡ recent A.Arithmetic.operations.symbols.zero (C.Code.shape self.now.code.now) self.now.symbols self.now.history.now self.now.packet.now age sub at }
+    {
+        // Slices of their own: where an index lies in memory is then known to fit.
+        let (history, packet) = (self.history, self.packet);
+        if age == 0 {
+            return packet[sub as usize * self.symbols + at];
+        }
+        let back = (self.code.memory() - age) as usize;
+        history[(back * self.code.sources() as usize + sub as usize) * self.symbols + at]
+    }
+
+    // What the packet `age` slots ago adds to a symbol of a parity.
+    fn age_sum(&self, parity: u32, age: u32, at: usize) -> A::Sym
+        requires place { (age ≤ (C.Code.shape self.now.code.now).memory) × (at < self.now.symbols) }
+        ensures { result ≡ sum_of_age A.Arithmetic.operations (C.Code.shape self.now.code.now) (C.Code.coefficients self.now.code.now) (recent A.Arithmetic.operations.symbols.zero (C.Code.shape self.now.code.now) self.now.symbols self.now.history.now self.now.packet.now) parity at age }
+    {
+        let mut sum = no_terms::<A>();
+        // A code is asked by number, so the sub-symbols are counted.
+        for sub in 0..self.code.sources() {
+            let x = self.recent_symbol(age, sub, at);
+            sum = add_scaled::<A>(sum, self.code.coefficient(parity, age, sub), x);
+        }
+        sum
+    }
+
+    // Symbol `at` of a parity of the slot: over all ages, youngest first.
+    fn parity_symbol(&self, parity: u32, at: usize) -> A::Sym
+        requires place { at < self.now.symbols }
+        ensures { result ≡ parity_spec A.Arithmetic.operations (C.Code.shape self.now.code.now) (C.Code.coefficients self.now.code.now) (recent A.Arithmetic.operations.symbols.zero (C.Code.shape self.now.code.now) self.now.symbols self.now.history.now self.now.packet.now) parity at }
+    {
+        let mut sum = no_terms::<A>();
+        for age in 0..=self.code.memory() {
+            sum = add::<A>(sum, self.age_sum(parity, age, at));
+        }
+        sum
+    }
+
+    // The parities of the slot, one after the other.
+    fn write_parities(&self, out: &mut [A::Sym])
+        requires room { (C.Code.shape self.now.code.now).parities * self.now.symbols ≤ length out.old }
+        ensures { out.new ≡ parities_of A.Arithmetic.operations (C.Code.shape self.now.code.now) (C.Code.coefficients self.now.code.now) self.now.symbols self.now.history.now self.now.packet.now ++ drop ((C.Code.shape self.now.code.now).parities * self.now.symbols) out.old }
+    {
+        let count = self.code.parities() as usize * self.symbols;
+        for (n, symbol) in out[..count].iter_mut().enumerate() {
+            *symbol = self.parity_symbol((n / self.symbols) as u32, n % self.symbols);
+        }
+    }
+
+    // The packet, and behind it the parities of its slot.
+    pub(crate) fn write_block(&self, out: &mut [A::Sym])
+        requires room { block_size (C.Code.shape self.now.code.now) self.now.symbols ≤ length out.old }
+        ensures { out.new ≡ written_over (block_of A.Arithmetic.operations (C.Code.shape self.now.code.now) (C.Code.coefficients self.now.code.now) self.now.symbols self.now.history.now self.now.packet.now) out.old }
+    {
+        let (front, behind) = out.split_at_mut(self.packet.len());
+        front.copy_from_slice(self.packet);
+        self.write_parities(behind);
+    }
+}

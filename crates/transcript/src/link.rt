@@ -1,0 +1,100 @@
+ghost use Rattle.std.specs.Prelude.{◌≡◌, ◌+◌, length, replicate, vec_len, IfOk, OnOk, string_bytes};
+ghost use Rattle.codes.specs.Shape.{block_size};
+ghost use Rattle.sender.specs.Block.{block_of, history_size, history_after};
+ghost use Rattle.linktext.specs.Fields.{lines_of};
+ghost use Rattle.transcript.specs.Sending.{Sent, Ready};
+ghost use Rattle.transcript.specs.Steps.{Answers};
+
+use crate::lines::Lines;
+use crate::reading::read_line;
+use crate::refusing::end_run;
+use arithmetic::arithmetic::Arithmetic;
+use arithmetic::combine::no_terms;
+use codes::code::Code;
+use hextext::error::ReadError;
+use linktext::lines::slot_text;
+use sender::sender::Sender;
+use std::alloc::{AllocError, Global};
+
+// So many zeros. Of a type that is not known, `vec!` says only that the elements are clones of one.
+fn zeros<A: Arithmetic>(heap: Global, count: usize) -> Result<Vec<A::Sym>, AllocError>
+    ensures { IfOk result (λ v. v.items ≡ replicate count A.Arithmetic.operations.symbols.zero) }
+{
+    let mut symbols = Vec::new(heap);
+    symbols.resize(count, no_terms::<A>())?;
+    Ok(symbols)
+}
+
+// A link while it runs: its sender, the packets that it sent last, and the block of a slot.
+#[derive(Drop)]
+pub(crate) struct Link<A: Arithmetic, C: Code<A::Coef>> {
+    heap: Global,
+    sender: Sender<A, C>,
+    history: Vec<A::Sym>,
+    block: Vec<A::Sym>,
+    ghost reaches: { vec_len history ≡ history_size (C.Code.shape sender.code) sender.symbols },
+    ghost room: { vec_len block ≡ block_size (C.Code.shape sender.code) sender.symbols },
+}
+
+impl<A: Arithmetic, C: Code<A::Coef> + Drop> Link<A, C> {
+    // A link at the sender's slot, on a history of zeros.
+    pub(crate) fn new(heap: Global, sender: Sender<A, C>) -> Result<Link<A, C>, AllocError>
+        ensures sender { IfOk result (λ l. l.sender ≡ sender) }
+        ensures history { IfOk result (λ l. l.history.items ≡ replicate (history_size (C.Code.shape sender.code) sender.symbols) A.Arithmetic.operations.symbols.zero) }
+    {
+        let history = zeros::<A>(heap, sender.history_size())?;
+        let block = zeros::<A>(heap, sender.block_size())?;
+        Ok(Link {
+            heap,
+            sender,
+            history,
+            block,
+        })
+    }
+
+    // Sends the packet of the next slot: the block is then what goes on air. `Ready` tells some of what the type tells too, and all in one word.
+    fn send(&mut self, packet: &[A::Sym])
+        requires { Ready (C.Code.shape self.old.sender.code) self.old.sender.symbols self.old.sender.next (vec_len self.old.history) (length packet.now) (vec_len self.old.block) }
+        ensures block { self.new.block.items ≡ block_of A.Arithmetic.operations (C.Code.shape self.old.sender.code) (C.Code.coefficients self.old.sender.code) self.old.sender.symbols self.old.history.items packet.now }
+        ensures history { self.new.history.items ≡ history_after (C.Code.shape self.old.sender.code) self.old.sender.symbols self.old.history.items packet.now }
+        ensures code { self.new.sender.code ≡ self.old.sender.code }
+        ensures symbols { self.new.sender.symbols ≡ self.old.sender.symbols }
+        ensures next { self.new.sender.next ≡ self.old.sender.next + 1 }
+    {
+        let slot = self.sender.next_slot();
+        let history = self.history.as_mut_slice();
+        let block = self.block.as_mut_slice();
+        self.sender.send(slot, packet, history, block).unwrap();
+    }
+
+    // Takes in one line: the packet of the next slot is read, sent and shown with its parities.
+    fn answer_line(&mut self, line: &[u8]) -> Result<String, ReadError>
+        ensures answers { Answers string_bytes A.Arithmetic.operations A.Arithmetic.bytes (C.Code.shape self.old.sender.code) (C.Code.coefficients self.old.sender.code) self.old.sender.symbols self.old.sender.next line.now self.old.history.items self.new.history.items result }
+        ensures code { self.new.sender.code ≡ self.old.sender.code }
+        ensures symbols { self.new.sender.symbols ≡ self.old.sender.symbols }
+        ensures next { OnOk result (self.new.sender.next ≡ self.old.sender.next + 1) }
+    {
+        let slot = self.sender.next_slot();
+        let size = self.sender.packet_size();
+        let packet = read_line::<A>(self.heap, line, slot, size)?;
+        self.send(packet.as_slice());
+        let shown = slot_text::<A>(self.heap, slot, packet.as_slice(), &self.block[size..])?;
+        Ok(shown)
+    }
+
+    // Takes in the lines, from the next slot on, until one is refused.
+    pub(crate) fn answer_lines(&mut self, lines: Lines<'_>) -> Result<String, AllocError>
+        ensures { IfOk result (λ s. Sent A.Arithmetic.operations A.Arithmetic.bytes (C.Code.shape self.old.sender.code) (C.Code.coefficients self.old.sender.code) self.old.sender.symbols self.old.history.items self.old.sender.next (lines_of lines.entry.rest.now) (string_bytes s)) }
+    {
+        let mut out = String::new(self.heap);
+        for line in lines {
+            // A match and no `?`: an error becomes the last line, and ends the run well.
+            let number = u64::from(self.sender.next_slot()) + 2;
+            match self.answer_line(line) {
+                Ok(shown) => writeln!(out, "{shown}")?,
+                Err(error) => return end_run(self.heap, out, error, number),
+            }
+        }
+        Ok(out)
+    }
+}
