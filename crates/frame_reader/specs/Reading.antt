@@ -1,6 +1,8 @@
 -- What reading a frame answers. Assumes nothing.
-use Rattle.std.specs.Prelude.{◌≡◌, ℕ, ◌*◌, ◌≤◌, cond, not, List, ◌++◌, map, length, take, drop, Some, None, Ok, Option, Result, ◌==◌, nat_lt}
-use Rattle.refusal.specs.declared.Refusal.TheVariants.{ShortOutput}
+use Rattle.std.specs.Prelude.{◌≡◌, ℕ, ◌*◌, ◌≤◌, not, List, ◌++◌, map, length, take, drop, Some, None, Ok, Option, Result, ◌==◌, nat_lt}
+use Rattle.refusal.specs.declared.Refusal.{Refusal}
+use Rattle.refusal.specs.declared.Refusal.TheVariants.{ShortOutput, OtherShape}
+use Rattle.refusal.specs.Order.{refused, accepted}
 use Rattle.arithmetic.specs.Operations.{Bytes}
 use Rattle.layout.specs.declared.fault.FrameFault.{FrameFault}
 use Rattle.layout.specs.declared.head.BlockShape.{BlockShape}
@@ -9,21 +11,22 @@ use Rattle.layout.specs.Bytes.{byte_at}
 use Rattle.layout.specs.Faults.{frame_fault, head_of}
 use Rattle.layout.specs.Layout.{symbol_count}
 use Rattle.frame_reader.specs.declared.error.ReadError.{ReadError}
-use Rattle.frame_reader.specs.declared.error.ReadError.TheVariants.{Frame, OtherWidth, Refused}
+use Rattle.frame_reader.specs.declared.error.ReadError.TheVariants.{Frame, Refused}
 use Rattle.frame_reader.specs.declared.read.Found.{Found}
 use Rattle.layout.specs.Frames.{BeginsWith, frame_of, words_of}
 
 -- the fault of the frame; if it has none, whatever stands in the way of this call
-abbrev pub fault_first : Option FrameFault → Option ReadError → Option ReadError
+abbrev pub fault_first : Option FrameFault → Option Refusal → Option ReadError
 fault_first (Some fault) later = Some (Frame fault)
-fault_first None later = later
+fault_first None (Some refusal) = Some (Refused refusal)
+fault_first None None = None
 
 -- symbols of another width than w, and then an output of n symbols that is too short for the block
 abbrev pub read_refusal : ℕ → List ℕ → ℕ → Option ReadError
 read_refusal w bs n =
     fault_first (frame_fault bs)
-    (cond (not ((head_of bs).width == w)) (Some OtherWidth)
-    (cond (nat_lt n (symbol_count (head_of bs).shape)) (Some (Refused ShortOutput)) None))
+    (refused (not ((head_of bs).width == w)) OtherShape
+    (refused (nat_lt n (symbol_count (head_of bs).shape)) ShortOutput accepted))
 
 -- symbol i of the block that the bytes carry, and its first n symbols
 abbrev pub symbol_in : {S : Type 0} → Bytes S → List ℕ → ℕ → S

@@ -10,8 +10,6 @@ use refusal::Refusal;
 pub enum ReadError {
     // The frame itself is at fault, in the word that its fault names.
     Frame(FrameFault),
-    // It is a frame, but its symbols have another width than those of the arithmetic that it is read in.
-    OtherWidth,
     // It is a frame, but this call cannot take it.
     Refused(Refusal),
 }
@@ -23,7 +21,6 @@ impl ReadError {
     {
         match self {
             ReadError::Frame(fault) => fault.number(),
-            ReadError::OtherWidth => 9,
             ReadError::Refused(refusal) => refusal.number(),
         }
     }

@@ -52,7 +52,7 @@ pub fn read<A: Arithmetic>(bytes: &[u8], out: &mut [A::Sym]) -> Result<Found, Re
 {
     let Checked { head, words } = check(bytes)?;
     if head.width as usize != A::symbol_width() {
-        return Err(ReadError::OtherWidth);
+        return Err(Refusal::OtherShape.into());
     }
     let count = head.shape.symbol_count() as usize;
     if out.len() < count {

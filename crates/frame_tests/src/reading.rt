@@ -199,7 +199,7 @@ fn other_width(rt: HostRuntime) {
     let frame: &[u8] =
         b"\x10\x00\x00\x07\x21\x14\x00\x01\x33\x01\x02\x03\x33\x04\x05\x06\x32\x07\x08\x00\x40\x00\x00\x05";
     let mut none: [Byte; 0] = [];
-    assert!(rt; read::<ByteArithmetic>(frame, &mut none) == Err(ReadError::OtherWidth));
+    assert!(rt; read::<ByteArithmetic>(frame, &mut none) == Err(ReadError::Refused(Refusal::OtherShape)));
     assert!(rt;
         read::<ByteArithmetic>(&frame[..23], &mut none)
             == Err(ReadError::Frame(FrameFault::EndsEarly(5)))

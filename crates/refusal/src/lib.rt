@@ -12,10 +12,12 @@ pub enum Refusal {
     UnfitShape = 2,
     // The history that was lent is too short.
     ShortMemory = 3,
-    // A packet or a coefficient table of another length than its code has.
+    // A packet or a coefficient table of another length than its code has, or a block of another than its shape says.
     OtherLength = 4,
     // The output that was lent is too short.
     ShortOutput = 5,
+    // A frame of another shape than is expected here; for a frame that is read alone, of symbols of another width.
+    OtherShape = 9,
     // A line of text that breaks its form, or no text at all.
     BrokenLine = 10,
     // A slot that the sender has passed already.
