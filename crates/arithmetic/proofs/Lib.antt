@@ -1,2 +1,1 @@
-pub mod TotalLaws
 pub mod XorLaws

@@ -1,7 +1,8 @@
-ghost use Rattle.std.specs.Prelude.{◌≡◌};
+ghost use Rattle.std.specs.Prelude.{◌≡◌, replicate, IfOk};
 
 use crate::arithmetic::Arithmetic;
 use crate::sum::Sum;
+use std::alloc::{AllocError, Global};
 
 // The empty sum, where adding up begins.
 pub fn no_terms<A: Arithmetic>() -> A::Sym
@@ -21,4 +22,13 @@ pub fn add_scaled<A: Arithmetic>(to: A::Sym, c: A::Coef, x: A::Sym) -> A::Sym
     ensures { result ≡ A.Arithmetic.operations.symbols.plus to (A.Arithmetic.operations.scale c x) }
 {
     to.plus(A::scale(c, x))
+}
+
+// So many zeros: what a stream starts on, and an output before it is written. Of a type that is not known, `vec!` says only that the elements are clones of one.
+pub fn zeros<A: Arithmetic>(heap: Global, count: usize) -> Result<Vec<A::Sym>, AllocError>
+    ensures { IfOk result (λ v. v.items ≡ replicate count A.Arithmetic.operations.symbols.zero) }
+{
+    let mut symbols = Vec::new(heap);
+    symbols.resize(count, no_terms::<A>())?;
+    Ok(symbols)
 }

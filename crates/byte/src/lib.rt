@@ -1,4 +1,4 @@
-// Byte arithmetic: bytes as the field of 256 elements, whose polynomial x^8 + x^4 + x^3 + x^2 + 1 is that of RFC 5510.
+// Byte arithmetic: bytes as the field of 256 elements, with the polynomial x^8 + x^4 + x^3 + x^2 + 1.
 // Coefficients and symbols are both bytes.
 #![tactic(auto)]
 

@@ -1,6 +1,7 @@
 -- What reading answers, case by case. Assumes nothing.
 use Rattle.std.proofs.Common.{◌≡◌, ℕ, ◌+◌, ◌*◌, ◌<◌, ◌≤◌, List, ◌++◌, length, get_or, drop, Some, Ok, Result, sym, ap, ◌∙◌, subst, arith, length-append}
 use Rattle.std.proofs.lemmas.List.FromFn.{length-map-range_with_len}
+use Rattle.fills.specs.Over.{written_over}
 use Rattle.arithmetic.specs.Laws.{ByteLaws}
 use Rattle.arithmetic.specs.Operations.{Bytes}
 use Rattle.layout.specs.declared.fault.FrameFault.{FrameFault}
@@ -15,7 +16,7 @@ use Rattle.frame_reader.specs.declared.check.Checked.{Checked}
 use Rattle.frame_reader.specs.declared.error.ReadError.{ReadError}
 use Rattle.frame_reader.specs.declared.read.Found.{Found}
 use Rattle.frame_reader.specs.Checking.{Framed}
-use Rattle.frame_reader.specs.Reading.{AcceptsBlocks, LaidOver, ReadAs, block_in, found_as, symbol_in}
+use Rattle.frame_reader.specs.Reading.{AcceptsBlocks, ReadAs, block_in, found_as, symbol_in}
 use Rattle.frame_reader.proofs.Carried.{carries, its_block, its_head, no_fault, used}
 use Rattle.frame_reader.proofs.Exactly.{never}
 
@@ -66,7 +67,7 @@ module _ {S : Type 0} (b : Bytes S) (laws : ByteLaws b) (bs : List ℕ) (small :
             let all : k.head ≡ head_for b k.head.slot k.head.shape = ap (λ w. record { slot = k.head.slot; shape = k.head.shape; width = w }) wide in
             ap (λ (x : Checked). x.words) framed.says ∙ ap word_count (sym head ∙ all)
 
-        laid : LaidOver block old (block ++ drop n old)
+        laid : block ++ drop n old ≡ written_over block old
         laid = ap (λ m. block ++ drop m old) (sym (ap length is ∙ length-map-range_with_len (symbol_in b bs) 0 n))
 
         pub read_as : ReadAs b bs old (block ++ drop n old) found

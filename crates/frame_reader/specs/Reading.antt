@@ -1,5 +1,6 @@
 -- What reading a frame answers. Assumes nothing.
-use Rattle.std.specs.Prelude.{◌≡◌, ℕ, ◌*◌, ◌≤◌, not, List, ◌++◌, map, length, take, drop, Some, None, Ok, Option, Result, ◌==◌, nat_lt}
+use Rattle.std.specs.Prelude.{◌≡◌, ℕ, ◌*◌, ◌≤◌, not, List, map, length, take, Some, None, Ok, Option, Result, ◌==◌, nat_lt}
+use Rattle.fills.specs.Over.{written_over}
 use Rattle.refusal.specs.declared.Refusal.{Refusal}
 use Rattle.refusal.specs.declared.Refusal.TheVariants.{ShortOutput, OtherShape}
 use Rattle.refusal.specs.Order.{refused, accepted}
@@ -38,20 +39,16 @@ block_in b bs n = map (symbol_in b bs) (range_with_len 0 n)
 abbrev pub found_as : {S : Type 0} → Bytes S → ℕ → BlockShape → Found
 found_as b slot x = record { slot = slot; shape = x; words = words_of b slot x }
 
--- the block lies over the output's first symbols, and the rest is as it was
-abbrev pub LaidOver : {S : Type 0} → List S → List S → List S → Type 0
-LaidOver block old new = new ≡ block ++ drop (length block) old
-
 -- the bytes begin with the frame of some block, and this is what was found; writing the block again gives the words that were used
 pub record ReadAs {S : Type 0} (b : Bytes S) (bs : List ℕ) (old new : List S) (f : Found) : Type 0 where
   pub block : List S
   pub begins : BeginsWith b bs f.slot f.shape block
   pub words : f.words ≡ words_of b f.slot f.shape
   pub again : frame_of b f.slot f.shape block ≡ take (4 * f.words) bs
-  pub laid : LaidOver block old new
+  pub laid : new ≡ written_over block old
 
 -- whatever block's frame the bytes begin with, that block is read, where the output has room for it
 abbrev pub AcceptsBlocks : {S : Type 0} → Bytes S → List ℕ → List S → List S → Result Found ReadError → Type 0
 AcceptsBlocks {S} b bs old new r =
     (slot : ℕ) (x : BlockShape) (block : List S) → BeginsWith b bs slot x block → length block ≤ length old
-    → (r ≡ Ok (found_as b slot x)) × LaidOver block old new
+    → (r ≡ Ok (found_as b slot x)) × (new ≡ written_over block old)

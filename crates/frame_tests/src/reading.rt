@@ -6,167 +6,182 @@ use frame_writer::write::write;
 use layout::fault::FrameFault;
 use layout::head::BlockShape;
 use refusal::Refusal;
+use std::test::Fail;
 use word::element::Word;
 use word::whole::WordArithmetic;
 
-// What is wrong with damaged frames, and in which word; the output stays as it was.
+// The refusal's number and the word of damaged frames; the output stays as it was.
 #[test]
-fn damaged_frames(rt: HostRuntime) {
-    let cases: [(&[u8], FrameFault); 38] = [
+fn damaged_frames(rt: HostRuntime) -> Result<(), Fail> {
+    let cases: [(&[u8], u8, usize); 38] = [
         // The frame ends early, before a word or within one.
-        (b"", FrameFault::EndsEarly(0)),
-        (b"\x10\x00\x00", FrameFault::EndsEarly(0)),
-        (b"\x10\x00\x00\x02", FrameFault::EndsEarly(1)),
-        (b"\x10\x00\x00\x02\x22\x11\x00", FrameFault::EndsEarly(1)),
-        (
-            b"\x10\x00\x00\x02\x22\x11\x00\x01",
-            FrameFault::EndsEarly(2),
-        ),
-        (
-            b"\x10\x00\x00\x02\x22\x11\x00\x01\x33\x05\x06\x05",
-            FrameFault::EndsEarly(3),
-        ),
+        (b"", 6, 0),
+        (b"\x10\x00\x00", 6, 0),
+        (b"\x10\x00\x00\x02", 6, 1),
+        (b"\x10\x00\x00\x02\x22\x11\x00", 6, 1),
+        (b"\x10\x00\x00\x02\x22\x11\x00\x01", 6, 2),
+        (b"\x10\x00\x00\x02\x22\x11\x00\x01\x33\x05\x06\x05", 6, 3),
         (
             b"\x10\x00\x00\x02\x22\x11\x00\x01\x33\x05\x06\x05\x40\x00\x00",
-            FrameFault::EndsEarly(3),
+            6,
+            3,
         ),
-        (
-            b"\x10\x00\x00\x02\x24\x11\x00\x01\x33\x01\x02\x03",
-            FrameFault::EndsEarly(3),
-        ),
+        (b"\x10\x00\x00\x02\x24\x11\x00\x01\x33\x01\x02\x03", 6, 3),
         // A word of another kind than its place has.
         (
             b"\x00\x00\x00\x02\x22\x11\x00\x01\x33\x05\x06\x05\x40\x00\x00\x03",
-            FrameFault::OtherKind(0),
+            7,
+            0,
         ),
         (
             b"\x20\x00\x00\x02\x22\x11\x00\x01\x33\x05\x06\x05\x40\x00\x00\x03",
-            FrameFault::OtherKind(0),
+            7,
+            0,
         ),
         (
             b"\xf0\x00\x00\x02\x22\x11\x00\x01\x33\x05\x06\x05\x40\x00\x00\x03",
-            FrameFault::OtherKind(0),
+            7,
+            0,
         ),
         (
             b"\x10\x00\x00\x02\x32\x11\x00\x01\x33\x05\x06\x05\x40\x00\x00\x03",
-            FrameFault::OtherKind(1),
+            7,
+            1,
         ),
-        (
-            b"\x10\x00\x00\x02\x22\x11\x00\x01\x40\x00\x00\x02",
-            FrameFault::OtherKind(2),
-        ),
+        (b"\x10\x00\x00\x02\x22\x11\x00\x01\x40\x00\x00\x02", 7, 2),
         (
             b"\x10\x00\x00\x02\x22\x11\x00\x01\x53\x05\x06\x05\x40\x00\x00\x03",
-            FrameFault::OtherKind(2),
+            7,
+            2,
         ),
         (
             b"\x10\x00\x00\x02\x22\x11\x00\x01\x33\x05\x06\x05\x31\x05\x00\x00",
-            FrameFault::OtherKind(3),
+            7,
+            3,
         ),
         (
             b"\x10\x00\x00\x02\x22\x11\x00\x01\x33\x05\x06\x05\x50\x00\x00\x03",
-            FrameFault::OtherKind(3),
+            7,
+            3,
         ),
         // K, P, the width or L outside its limits.
         (
             b"\x10\x00\x00\x02\x20\x11\x00\x01\x33\x05\x06\x05\x40\x00\x00\x03",
-            FrameFault::WrongBits(1),
+            8,
+            1,
         ),
         (
             b"\x10\x00\x00\x02\x29\x11\x00\x01\x33\x05\x06\x05\x40\x00\x00\x03",
-            FrameFault::WrongBits(1),
+            8,
+            1,
         ),
         (
             b"\x10\x00\x00\x02\x22\x01\x00\x01\x33\x05\x06\x05\x40\x00\x00\x03",
-            FrameFault::WrongBits(1),
+            8,
+            1,
         ),
         (
             b"\x10\x00\x00\x02\x22\x51\x00\x01\x33\x05\x06\x05\x40\x00\x00\x03",
-            FrameFault::WrongBits(1),
+            8,
+            1,
         ),
         (
             b"\x10\x00\x00\x02\x22\x10\x00\x01\x33\x05\x06\x05\x40\x00\x00\x03",
-            FrameFault::WrongBits(1),
+            8,
+            1,
         ),
         (
             b"\x10\x00\x00\x02\x22\x12\x00\x01\x33\x05\x06\x05\x40\x00\x00\x03",
-            FrameFault::WrongBits(1),
+            8,
+            1,
         ),
         (
             b"\x10\x00\x00\x02\x22\x15\x00\x01\x33\x05\x06\x05\x40\x00\x00\x03",
-            FrameFault::WrongBits(1),
+            8,
+            1,
         ),
         (
             b"\x10\x00\x00\x02\x22\x11\x00\x00\x33\x05\x06\x05\x40\x00\x00\x03",
-            FrameFault::WrongBits(1),
+            8,
+            1,
         ),
         (
             b"\x10\x00\x00\x02\x22\x11\x00\x21\x33\x05\x06\x05\x40\x00\x00\x03",
-            FrameFault::WrongBits(1),
+            8,
+            1,
         ),
         // A data word that says another number of bytes than its place carries.
         (
             b"\x10\x00\x00\x02\x22\x11\x00\x01\x30\x05\x06\x05\x40\x00\x00\x03",
-            FrameFault::WrongBits(2),
+            8,
+            2,
         ),
         (
             b"\x10\x00\x00\x02\x22\x11\x00\x01\x32\x05\x06\x00\x40\x00\x00\x03",
-            FrameFault::WrongBits(2),
+            8,
+            2,
         ),
         (
             b"\x10\x00\x00\x02\x22\x11\x00\x01\x34\x05\x06\x05\x40\x00\x00\x03",
-            FrameFault::WrongBits(2),
+            8,
+            2,
         ),
         (
             b"\x10\x00\x00\x02\x24\x11\x00\x01\x32\x01\x02\x00\x33\x03\x04\x05\x40\x00\x00\x04",
-            FrameFault::WrongBits(2),
+            8,
+            2,
         ),
         (
             b"\x10\x00\x00\x02\x24\x11\x00\x01\x33\x01\x02\x03\x33\x04\x05\x00\x40\x00\x00\x04",
-            FrameFault::WrongBits(3),
+            8,
+            3,
         ),
         // An unused byte that is not zero.
         (
             b"\x10\x00\x00\x02\x24\x11\x00\x01\x33\x01\x02\x03\x32\x04\x05\x06\x40\x00\x00\x04",
-            FrameFault::WrongBits(3),
+            8,
+            3,
         ),
         (
             b"\x10\x00\x00\x02\x23\x11\x00\x01\x33\x01\x02\x03\x31\x04\x05\x00\x40\x00\x00\x04",
-            FrameFault::WrongBits(3),
+            8,
+            3,
         ),
         (
             b"\x10\x00\x00\x02\x23\x11\x00\x01\x33\x01\x02\x03\x31\x04\x00\x05\x40\x00\x00\x04",
-            FrameFault::WrongBits(3),
+            8,
+            3,
         ),
         // A count of other words than those before it.
         (
             b"\x10\x00\x00\x02\x22\x11\x00\x01\x33\x05\x06\x05\x40\x00\x00\x02",
-            FrameFault::WrongBits(3),
+            8,
+            3,
         ),
         (
             b"\x10\x00\x00\x02\x22\x11\x00\x01\x33\x05\x06\x05\x40\x00\x00\x04",
-            FrameFault::WrongBits(3),
+            8,
+            3,
         ),
         (
             b"\x10\x00\x00\x02\x22\x11\x00\x01\x33\x05\x06\x05\x48\x00\x00\x03",
-            FrameFault::WrongBits(3),
+            8,
+            3,
         ),
         // Of several faults the first word's counts.
-        (
-            b"\x10\x00\x00\x02\x29\x11\x00\x01",
-            FrameFault::WrongBits(1),
-        ),
-        (
-            b"\x20\x00\x00\x02\x29\x11\x00\x01\x33",
-            FrameFault::OtherKind(0),
-        ),
+        (b"\x10\x00\x00\x02\x29\x11\x00\x01", 8, 1),
+        (b"\x20\x00\x00\x02\x29\x11\x00\x01\x33", 7, 0),
     ];
-    for (bytes, fault) in cases {
+    for (bytes, number, word) in cases {
         let mut out = [Byte::new(0xee); 5];
-        let answer = read::<ByteArithmetic>(bytes, &mut out);
-        assert!(rt; answer == Err(ReadError::Frame(fault)));
+        let Err(ReadError::Frame(fault)) = read::<ByteArithmetic>(bytes, &mut out) else {
+            return Err(Fail::new("a damaged frame is not found at fault"));
+        };
+        assert_eq!(rt; fault.number(), number);
+        assert_eq!(rt; fault.word(), word);
         assert!(rt; out == [Byte::new(0xee); 5]);
     }
+    Ok(())
 }
 
 // A frame is read, with other bytes behind it; the output behind the block stays as it was.
@@ -199,7 +214,9 @@ fn other_width(rt: HostRuntime) {
     let frame: &[u8] =
         b"\x10\x00\x00\x07\x21\x14\x00\x01\x33\x01\x02\x03\x33\x04\x05\x06\x32\x07\x08\x00\x40\x00\x00\x05";
     let mut none: [Byte; 0] = [];
-    assert!(rt; read::<ByteArithmetic>(frame, &mut none) == Err(ReadError::Refused(Refusal::OtherShape)));
+    let answer = read::<ByteArithmetic>(frame, &mut none);
+    assert!(rt; answer == Err(ReadError::Refused(Refusal::OtherShape)));
+    assert_eq!(rt; ReadError::Refused(Refusal::OtherShape).number(), 9);
     assert!(rt;
         read::<ByteArithmetic>(&frame[..23], &mut none)
             == Err(ReadError::Frame(FrameFault::EndsEarly(5)))
@@ -218,6 +235,7 @@ fn short_output(rt: HostRuntime) {
         &mut out,
     );
     assert!(rt; answer == Err(ReadError::Refused(Refusal::ShortOutput)));
+    assert_eq!(rt; ReadError::Refused(Refusal::ShortOutput).number(), 5);
     assert!(rt; out == [Byte::new(0xee); 2]);
 }
 
@@ -241,6 +259,8 @@ fn largest_frame(rt: HostRuntime) {
     let block = many_words();
     let mut frame = [0; 2060];
     assert!(rt; write::<WordArithmetic>(3, shape, &block, &mut frame) == Ok(515));
+    assert!(rt; frame.starts_with(b"\x10\x00\x00\x03\x28\x44\x00\x20"));
+    assert!(rt; frame.ends_with(b"\x40\x00\x02\x02"));
     let mut back = [Word::new(0); 384];
     let answer = read::<WordArithmetic>(&frame, &mut back);
     assert!(rt;

@@ -1,7 +1,8 @@
-ghost use Rattle.std.specs.Prelude.{◌≡◌, ◌+◌, ◌*◌, ◌^◌, ◌<◌, ◌≤◌, ◌++◌, false, length, take, drop, slice_index};
+ghost use Rattle.std.specs.Prelude.{◌≡◌, ◌+◌, ◌*◌, ◌^◌, ◌<◌, ◌≤◌, ◌++◌, length, take, drop, slice_index};
 ghost use Rattle.std.specs.List.{flat_map};
+ghost use Rattle.fills.specs.Over.{written_over};
 ghost use Rattle.layout.specs.Kinds.{kind_number};
-ghost use Rattle.layout.specs.Layout.{count_of_data, symbol_count, word_of_data, word_of_shape};
+ghost use Rattle.layout.specs.Layout.{count_of_data, word_of_data, word_of_shape};
 ghost use Rattle.layout.specs.Words.{word_bytes};
 ghost use Rattle.layout.specs.Frames.{frame_of, head_for, words_of, Within};
 ghost use Rattle.frame_writer.specs.Writing.{word_list};
@@ -125,7 +126,7 @@ impl<'a, A: Arithmetic> Frame<'a, A> {
     // Writes the words to the output's first bytes.
     pub fn write(&self, out: &mut [u8])
         requires { 4 * words_of A.Arithmetic.bytes self.now.slot self.now.shape ≤ length out.old }
-        ensures { out.new ≡ frame_of A.Arithmetic.bytes self.now.slot self.now.shape self.now.block.now ++ drop (length (frame_of A.Arithmetic.bytes self.now.slot self.now.shape self.now.block.now)) out.old }
+        ensures { out.new ≡ written_over (frame_of A.Arithmetic.bytes self.now.slot self.now.shape self.now.block.now) out.old }
     {
         // Counted: tried with `chunks_exact_mut`, and the invariant of the loop cannot then name the bytes that are written.
         for i in 0..self.word_count() {

@@ -1,5 +1,6 @@
-ghost use Rattle.std.specs.Prelude.{◌≡◌, ◌++◌, length, drop, IfOk, OnErr, OnOk};
+ghost use Rattle.std.specs.Prelude.{◌≡◌, length, IfOk, OnErr, OnOk};
 ghost use Rattle.std.specs.Result.{result_err};
+ghost use Rattle.fills.specs.Over.{written_over};
 ghost use Rattle.layout.specs.Frames.{BeginsWith, frame_of, words_of};
 ghost use Rattle.frame_writer.specs.Writing.{write_refusal, NoOther};
 
@@ -18,7 +19,7 @@ pub fn write<A: Arithmetic>(
 ) -> Result<usize, Refusal>
     ensures refusal { result_err result ≡ write_refusal A.Arithmetic.bytes slot shape (length block.now) (length out.old) }
     ensures words { IfOk result (λ n. n ≡ words_of A.Arithmetic.bytes slot shape) }
-    ensures written { OnOk result (out.new ≡ frame_of A.Arithmetic.bytes slot shape block.now ++ drop (length (frame_of A.Arithmetic.bytes slot shape block.now)) out.old) }
+    ensures written { OnOk result (out.new ≡ written_over (frame_of A.Arithmetic.bytes slot shape block.now) out.old) }
     ensures begins { OnOk result (BeginsWith A.Arithmetic.bytes out.new slot shape block.now) }
     ensures only { OnOk result (NoOther A.Arithmetic.bytes slot shape block.now) }
     ensures unchanged { OnErr result (out.new ≡ out.old) }

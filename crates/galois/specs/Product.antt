@@ -1,5 +1,5 @@
--- The field of 256 elements: a byte's bits are a polynomial's coefficients, modulo x^8 + x^4 + x^3 + x^2 + 1, the number 285,
--- which RFC 5510 uses too. The sum of two bytes is their exclusive or.
+-- The field of 256 elements: a byte's bits are a polynomial's coefficients, modulo x^8 + x^4 + x^3 + x^2 + 1, the number 285.
+-- The sum of two bytes is their exclusive or.
 use Rattle.std.specs.Prelude.{ℕ, zero, suc, ◌*◌, ◌/◌, ◌%◌, bit_xor}
 
 -- times x: a shift by one bit, less 285 where the top bit was set

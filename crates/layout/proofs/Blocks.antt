@@ -9,7 +9,6 @@ use Rattle.arithmetic.specs.Operations.{Bytes}
 use Rattle.codes.specs.Shape.{last_slot}
 use Rattle.layout.specs.declared.head.BlockShape.{BlockShape}
 use Rattle.layout.specs.Layout.{Lawful, is_width, outside_shape}
-use Rattle.layout.proofs.Limits.{few_symbols}
 use Rattle.layout.proofs.Pieces.{length_joined, get_d_joined, get_d_joined_past, all_joined}
 use Rattle.layout.specs.Frames.{Within, head_for}
 
@@ -43,11 +42,6 @@ module _ {S : Type 0} (b : Bytes S) (laws : ByteLaws b) where
         long = length_joined b.write b.width laws.long block ∙ ap (λ n. n * b.width) within.long;
         small = all_joined (λ n. n < 256) b.write laws.small block;
       }
-
-  -- such a block is small
-  pub small_block : (slot : ℕ) (x : BlockShape) (block : List S) → Within slot x block → length block ≤ 384
-  small_block slot x block within =
-      rw within.long (few_symbols x (lawful_block slot x block within).shape)
 
   -- as many symbols with the same bytes are the same symbols
   pub same_block : (xs ys : List S) → length xs ≡ length ys → flat_map b.write xs ≡ flat_map b.write ys → xs ≡ ys

@@ -1,5 +1,5 @@
 -- The limits of a shape, as numbers. Assumes nothing.
-use Rattle.std.proofs.Common.{◌≡◌, ℕ, ◌+◌, ◌≤◌, true, false, ◌⊎◌, arith}
+use Rattle.std.proofs.Common.{◌≡◌, ℕ, ◌+◌, ◌≤◌, true, false, arith}
 use Rattle.std.proofs.lemmas.Nat.{mul-le}
 use Rattle.std.proofs.lemmas.Bool.Decides.{nat_tests}
 use Rattle.layout.specs.declared.head.BlockShape.{BlockShape}
@@ -24,8 +24,5 @@ module _ (x : BlockShape) (right : outside_shape x ≡ false) where
       mul-le (x.sources + x.parities) x.symbols 12 32 (omega arith) (omega arith)
 
 module _ (w : ℕ) (right : is_width w ≡ true) where
-  pub width_is_one_or_four : (w ≡ 1) ⊎ (w ≡ 4)
-  width_is_one_or_four = grind (arith, nat_tests)
-
   pub width_within : (1 ≤ w) × (w ≤ 4)
   width_within = (grind (arith, nat_tests), grind (arith, nat_tests))

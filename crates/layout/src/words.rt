@@ -1,5 +1,5 @@
-ghost use Rattle.std.specs.Prelude.{◌≡◌, ◌+◌, ◌*◌, ◌<◌, ◌≤◌, length};
-ghost use Rattle.layout.specs.Words.{bits as bits_spec, word_in};
+ghost use Rattle.std.specs.Prelude.{◌≡◌, ◌<◌, ◌≤◌};
+ghost use Rattle.layout.specs.Words.{bits as bits_spec};
 ghost use Rattle.layout.specs.Kinds.{kind_number, KindIs};
 
 // The kind of a word, with its number.
@@ -40,12 +40,4 @@ pub fn kind_of(word: u32) -> Option<Kind>
         4 => Some(Kind::Count),
         _ => None,
     }
-}
-
-// Word i of these bytes.
-pub fn word_at(bytes: &[u8], i: usize) -> u32
-    requires { 4 * i + 4 ≤ length bytes.now }
-    ensures { result ≡ word_in bytes.now i }
-{
-    u32::from_be_bytes(bytes.as_chunks::<4>().0[i])
 }

@@ -1,4 +1,4 @@
-// Shows what a truck puts on air: reads a link's text from standard input, and prints the plan and every block.
+// Shows what a truck puts on air: reads a link's text from standard input, and prints the plan and every block with its frame.
 #![tactic(auto)]
 
 use std::io::Read;

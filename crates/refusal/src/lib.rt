@@ -16,7 +16,7 @@ pub enum Refusal {
     OtherLength = 4,
     // The output that was lent is too short.
     ShortOutput = 5,
-    // A frame of another shape than is expected here; for a frame that is read alone, of symbols of another width.
+    // A frame of another shape than the call reads: its symbols have another width.
     OtherShape = 9,
     // A line of text that breaks its form, or no text at all.
     BrokenLine = 10,

@@ -1,9 +1,10 @@
 -- What a sender writes. Lists hold symbols; a packet has K sub-symbols of L symbols each. Assumes nothing.
-use Rattle.std.specs.Prelude.{◌≡◌, ℕ, ◌+◌, ◌-◌, ◌*◌, ◌/◌, ◌%◌, ◌≤◌, cond, List, ◌++◌, map, length, take, drop, ◌==◌, slice_index_or}
+use Rattle.std.specs.Prelude.{◌≡◌, ℕ, ◌+◌, ◌-◌, ◌*◌, ◌/◌, ◌%◌, ◌≤◌, cond, List, ◌++◌, map, take, drop, ◌==◌, slice_index_or}
 use Rattle.std.specs.List.{range_with_len}
 use Rattle.arithmetic.specs.Operations.{Operations}
 use Rattle.codes.specs.Shape.{Shape, packet_size}
 use Rattle.codes.specs.Parity.{parity}
+use Rattle.layout.specs.declared.head.BlockShape.{BlockShape}
 
 -- the symbols of a history: as many packets as the code's memory says
 abbrev pub history_size : Shape → ℕ → ℕ
@@ -26,14 +27,14 @@ parities_of o x c l history packet = map (symbol_of_parity o x c l history packe
 abbrev pub block_of : {F S : Type 0} → Operations F S → Shape → (ℕ → ℕ → ℕ → F) → ℕ → List S → List S → List S
 block_of o x c l history packet = packet ++ parities_of o x c l history packet
 
+-- how it is made up, with l symbols to a sub-symbol
+abbrev pub block_shape : Shape → ℕ → BlockShape
+block_shape x l = record { sources = x.sources; parities = x.parities; symbols = l }
+
 -- the oldest packet goes, the new one comes; what lies behind the history stays
 abbrev pub history_after : {S : Type 0} → Shape → ℕ → List S → List S → List S
 history_after x l history packet =
     drop (packet_size x l) (take (history_size x l) history ++ packet) ++ drop (history_size x l) history
-
--- written over the front of what was there
-abbrev pub written_over : {S : Type 0} → List S → List S → List S
-written_over new old = new ++ drop (length new) old
 
 -- the limits that the sender's inner calls rely on: they are tested once, before the first of them
 pub record Fits (x : Shape) (l history packet : ℕ) : Type 0 where

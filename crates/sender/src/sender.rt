@@ -1,7 +1,9 @@
 ghost use Rattle.std.specs.Prelude.{◌≡◌, ◌+◌, ◌≤◌, false, length, IfOk, OnErr, OnOk};
 ghost use Rattle.std.specs.Result.{result_err};
+ghost use Rattle.fills.specs.Over.{written_over};
 ghost use Rattle.codes.specs.Shape.{unfit, packet_size, block_size};
-ghost use Rattle.sender.specs.Block.{history_size, block_of, history_after, written_over};
+ghost use Rattle.sender.specs.Block.{history_size, block_of, block_shape, history_after};
+ghost use Rattle.layout.specs.Layout.{outside_shape};
 ghost use Rattle.sender.specs.Limits.{making_refusal, send_refusal};
 
 use crate::history::advance;
@@ -10,6 +12,7 @@ use arithmetic::arithmetic::Arithmetic;
 use codes::code::Code;
 use codes::limits::Symbols;
 use codes::link::{LAST_SLOT, unfit};
+use layout::head::BlockShape;
 use refusal::Refusal;
 use std::marker::PhantomData;
 
@@ -69,6 +72,18 @@ impl<A: Arithmetic, C: Code<A::Coef> + Drop> Sender<A, C> {
         ensures { result ≡ block_size (C.Code.shape self.now.code) self.now.symbols }
     {
         self.packet_size() + self.code.parities() as usize * self.symbols.value() as usize
+    }
+
+    // How a block is made up, as its frame says it.
+    pub fn block_shape(&self) -> BlockShape
+        ensures value { result ≡ block_shape (C.Code.shape self.now.code) self.now.symbols }
+        ensures limits { outside_shape result ≡ false }
+    {
+        BlockShape {
+            sources: self.code.sources(),
+            parities: self.code.parities(),
+            symbols: self.symbols.value(),
+        }
     }
 
     // Sends the packet of this slot, which must be the next one: the block goes to the output, and the history,

@@ -1,7 +1,8 @@
-ghost use Rattle.std.specs.Prelude.{◌≡◌, ◌+◌, ◌*◌, ◌<◌, ◌≤◌, false, ◌++◌, length, take, drop};
+ghost use Rattle.std.specs.Prelude.{◌≡◌, ◌+◌, ◌*◌, ◌<◌, ◌≤◌, false, ◌++◌, length, drop};
+ghost use Rattle.fills.specs.Over.{written_over};
 ghost use Rattle.codes.specs.Shape.{block_size, unfit};
 ghost use Rattle.codes.specs.Parity.{sum_of_age, parity as parity_spec};
-ghost use Rattle.sender.specs.Block.{recent, Fits, block_of, parities_of, written_over};
+ghost use Rattle.sender.specs.Block.{recent, Fits, block_of, parities_of};
 
 use arithmetic::arithmetic::Arithmetic;
 use arithmetic::combine::{add, add_scaled, no_terms};

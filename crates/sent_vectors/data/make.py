@@ -2,6 +2,7 @@
 # Usage: python3 make.py > vectors.txt
 # A line of a case begins with < (the link's text) or > (what is to be printed); a case ends with a line of its own, "=".
 import random
+import struct
 
 random.seed(2026)
 
@@ -17,8 +18,23 @@ def coefficient(burst, width, stretch, age, sub):
     return value
 
 
+def frame(slot, sources, symbols, width, carried):
+    """The words of the frame that carries these bytes, each with what it says: a kind in the top four bits, and behind it its fields."""
+    words = [
+        (1 << 28 | slot, "slot %d" % slot),
+        (2 << 28 | sources << 24 | 1 << 20 | width << 16 | symbols, "shape K=%d P=1 width=%d L=%d" % (sources, width, symbols)),
+    ]
+    for start in range(0, len(carried), 3):
+        piece = carried[start : start + 3]
+        padded = int.from_bytes(piece.ljust(3, b"\0"), "big")
+        words.append((3 << 28 | len(piece) << 24 | padded, "data %d bytes %s" % (len(piece), piece.hex())))
+    words.append((4 << 28 | len(words), "count %d" % len(words)))
+    return words
+
+
 def case(burst, width, stretch, symbols, letter, slots):
     digits = 8 if letter == "W" else 2
+    packed = ">%dI" if letter == "W" else ">%dB"
     text = lambda values: "".join("%0*x" % (digits, v) for v in values)
     packets = [[[random.randrange(16**digits) for _ in range(symbols)] for _ in range(width)] for _ in range(slots)]
     print("<%d %d %d %d %s" % (burst, width, stretch, symbols, letter))
@@ -37,7 +53,13 @@ def case(burst, width, stretch, symbols, letter, slots):
                 if coefficient(burst, width, stretch, age, sub) == 1:
                     for i in range(symbols):
                         parity[i] ^= packets[slot - age][sub][i]
-        print(">slot %d packet %s parities %s" % (slot, text(sum(packets[slot], [])), text(parity)))
+        packet = sum(packets[slot], [])
+        print(">slot %d packet %s parities %s" % (slot, text(packet), text(parity)))
+        block = packet + parity
+        words = frame(slot, width, symbols, digits // 2, struct.pack(packed % len(block), *block))
+        for index, (word, said) in enumerate(words):
+            print(">word %d %08x %s" % (index, word, said))
+        print(">read back %d words: the same block" % len(words))
     print("=")
 
 

@@ -1,8 +1,7 @@
 -- What is shown of a frame, and what is read back from it. Assumes nothing.
-use Rattle.std.proofs.Common.{◌≡◌, ℕ, ◌*◌, ◌/◌, ◌<◌, List, [], ◌++◌, map, length, get_or, take, drop, sym, refl, ap, ◌∙◌, append-nil, arith}
+use Rattle.std.proofs.Common.{◌≡◌, ℕ, ◌*◌, ◌/◌, ◌<◌, List, [], map, length, get_or, sym, ap, ◌∙◌, append-nil, arith, subst}
 use Rattle.std.specs.List.{range_with_len, flat_map}
 use Rattle.std.proofs.lemmas.List.FromFn.{fill_by_all}
-use Rattle.std.proofs.lemmas.List.{take_at}
 use Rattle.arithmetic.specs.Laws.{ByteLaws}
 use Rattle.arithmetic.specs.Operations.{Bytes}
 use Rattle.layout.specs.declared.head.BlockShape.{BlockShape}
@@ -11,8 +10,7 @@ use Rattle.layout.specs.Faults.{word_count}
 use Rattle.layout.specs.Layout.{Lawful, frame, frame_words}
 use Rattle.layout.specs.Words.{word_in}
 use Rattle.layout.proofs.Right.{length_frame, length_frame_words, word_is}
-use Rattle.layout.specs.Frames.{Within, frame_of, head_for, words_of}
-use Rattle.frame_reader.specs.Reading.{LaidOver}
+use Rattle.layout.specs.Frames.{BeginsWith, Within, frame_of, head_for, words_of}
 use Rattle.layout.proofs.Blocks.{lawful_block}
 use Rattle.frametext.specs.FrameText.{words_in}
 
@@ -26,16 +24,17 @@ words_of_frame h ns lawful =
     ap (λ m. map (word_in bs) (range_with_len 0 m)) n
     ∙ sym (fill_by_all (word_in bs) (frame_words h ns) (word_count h) 0 (length_frame_words h ns lawful) each)
 
--- the front of bytes that begin with a block's frame, as long as the frame is: its words are the frame's
-pub words_at_front : {S : Type 0} (b : Bytes S) → ByteLaws b → (slot : ℕ) (x : BlockShape) (block : List S) → Within slot x block
-    → (bs rest : List ℕ) (n : ℕ) → bs ≡ frame_of b slot x block ++ rest → n ≡ words_of b slot x
-    → words_in (take (4 * n) bs) ≡ frame_words (head_for b slot x) (flat_map b.write block)
-words_at_front b laws slot x block within bs rest n begins many =
-    let lawful = lawful_block b laws slot x block within in
-    let long : length (frame_of b slot x block) ≡ 4 * n = omega (arith, length_frame (head_for b slot x) (flat_map b.write block) lawful) in
-    ap (λ (l : List ℕ). words_in (take (4 * n) l)) begins ∙ ap words_in (take_at (frame_of b slot x block) rest (4 * n) long)
-    ∙ words_of_frame (head_for b slot x) (flat_map b.write block) lawful
+-- those of a block's frame, and how many bytes it has
+module _ {S : Type 0} (b : Bytes S) (laws : ByteLaws b) (slot : ℕ) (x : BlockShape) (block : List S) (within : Within slot x block) where
+  pub words_of_block : words_in (frame_of b slot x block) ≡ frame_words (head_for b slot x) (flat_map b.write block)
+  words_of_block = words_of_frame (head_for b slot x) (flat_map b.write block) (lawful_block b laws slot x block within)
 
--- where a block was laid, there it lies
-pub lies_there : {S : Type 0} (block old new : List S) → LaidOver block old new → take (length block) new ≡ block
-lies_there block old new laid = ap (take (length block)) laid ∙ take_at block (drop (length block) old) (length block) refl
+  pub length_of_block : length (frame_of b slot x block) ≡ 4 * words_of b slot x
+  length_of_block = length_frame (head_for b slot x) (flat_map b.write block) (lawful_block b laws slot x block within)
+
+-- the frame of a block with the same slot, shape and symbols is its frame
+pub same_frame : {S : Type 0} (b : Bytes S) (bs : List ℕ) (slot other : ℕ) (x y : BlockShape) (block blocks : List S)
+    → other ≡ slot → y ≡ x → blocks ≡ block → BeginsWith b bs other y blocks → BeginsWith b bs slot x block
+same_frame {S} b bs slot other x y block blocks slots shapes symbols begins =
+    subst (λ (l : List S). BeginsWith b bs slot x l) symbols
+    (subst (λ (z : BlockShape). BeginsWith b bs slot z blocks) shapes (subst (λ n. BeginsWith b bs n y blocks) slots begins))

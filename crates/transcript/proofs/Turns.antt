@@ -4,8 +4,9 @@ use Rattle.hextext.specs.declared.error.ReadError.{ReadError}
 use Rattle.hextext.specs.declared.error.ReadError.TheVariants.{Refused, NoMemory}
 use Rattle.arithmetic.specs.Operations.{Operations, Bytes}
 use Rattle.codes.specs.Shape.{Shape}
-use Rattle.sender.specs.Block.{parities_of}
-use Rattle.linktext.specs.Lines.{text_of_refusal, text_of_slot}
+use Rattle.sender.specs.Block.{parities_of, block_shape}
+use Rattle.slotframe.specs.Shown.{slot_shown}
+use Rattle.linktext.specs.Lines.{text_of_refusal}
 use Rattle.transcript.specs.Sending.{Sent}
 use Rattle.transcript.specs.Sending.Sent.{ended, stopped, sent}
 use Rattle.transcript.specs.Steps.{Stepped, Answers, Ends}
@@ -21,9 +22,9 @@ module _ {F S : Type 0} (o : Operations F S) (b : Bytes S) (x : Shape) (c : ℕ 
       → rest ≡ line ∷ left → Stepped o b x c l slot line history after shown → next ≡ slot + 1 → now ≡ out ++ (shown ++ (10 ∷ []))
       → Turned o b x c l All history slot rest out → Turned o b x c l All after next left now
   turn {history} {after} {slot} {next} {line} {left} {rest} {shown} {now} out cut step follows pushed before more run =
-      let text = text_of_slot b slot step.packet (parities_of o x c l history step.packet) in
+      let text = slot_shown b slot (block_shape x l) step.packet (parities_of o x c l history step.packet) in
       let here : Sent o b x c l history slot (line ∷ left) (text ++ (10 ∷ more)) = sent step.packet step.right step.text (rw (step.history, follows) at run) in
-      let same : now ++ more ≡ out ++ (text ++ (10 ∷ more)) = rw (pushed, step.line_shown) (simp append_assoc) in
+      let same : now ++ more ≡ out ++ (text ++ (10 ∷ more)) = rw (pushed, step.all_shown) (simp append_assoc) in
       rw same (before (text ++ (10 ∷ more)) (rw cut here))
 
   -- a line ends the run

@@ -5,8 +5,9 @@ use Rattle.codes.specs.Shape.{Shape, packet_size}
 use Rattle.hextext.specs.declared.error.ReadError.{ReadError}
 use Rattle.hextext.specs.declared.error.ReadError.TheVariants.{Refused, NoMemory}
 use Rattle.hextext.specs.Packet.{packet_text}
-use Rattle.linktext.specs.Lines.{text_of_refusal, text_of_slot}
-use Rattle.sender.specs.Block.{history_after, parities_of}
+use Rattle.linktext.specs.Lines.{text_of_refusal}
+use Rattle.sender.specs.Block.{history_after, parities_of, block_shape}
+use Rattle.slotframe.specs.Shown.{slot_shown}
 use Rattle.transcript.specs.Sending.{line_refusal}
 
 -- the packet that the line hands in was sent and shown, and the history took it in
@@ -14,7 +15,7 @@ pub record Stepped {F S : Type 0} (o : Operations F S) (b : Bytes S) (x : Shape)
   pub packet : List S
   pub right : line_refusal b.width (packet_size x l) slot line ≡ None
   pub text : packet_text b packet ≡ line
-  pub line_shown : shown ≡ text_of_slot b slot packet (parities_of o x c l was packet)
+  pub all_shown : shown ≡ slot_shown b slot (block_shape x l) packet (parities_of o x c l was packet)
   pub history : now ≡ history_after x l was packet
 
 -- what a line answers, where `read` has the text of what is shown; where memory runs out, nothing is said of it
@@ -22,6 +23,12 @@ abbrev pub Answers : {F S X : Type 0} → (X → List ℕ) → Operations F S �
 Answers read o b x c l slot line was now (Ok s) = Stepped o b x c l slot line was now (read s)
 Answers read o b x c l slot line was now (Err (Refused why)) = line_refusal b.width (packet_size x l) slot line ≡ Some why
 Answers read o b x c l slot line was now (Err NoMemory) = Unit {0}
+
+-- said of a line that was refused
+abbrev pub IfLineRefused : {X : Type 0} → Result X ReadError → Type 0 → Type 0
+IfLineRefused (Ok s) P = Unit {0}
+IfLineRefused (Err (Refused why)) P = P
+IfLineRefused (Err NoMemory) P = Unit {0}
 
 -- how a run ends that a line broke off: with the refusal, or for want of memory without a text
 abbrev pub Ends : ReadError → ℕ → List ℕ → List ℕ → Type 0

@@ -3,27 +3,19 @@ ghost use Rattle.codes.specs.Shape.{block_size};
 ghost use Rattle.sender.specs.Block.{block_of, history_size, history_after};
 ghost use Rattle.linktext.specs.Fields.{lines_of};
 ghost use Rattle.transcript.specs.Sending.{Sent, Ready};
-ghost use Rattle.transcript.specs.Steps.{Answers};
+ghost use Rattle.transcript.specs.Steps.{Answers, IfLineRefused};
 
 use crate::lines::Lines;
 use crate::reading::read_line;
 use crate::refusing::end_run;
 use arithmetic::arithmetic::Arithmetic;
-use arithmetic::combine::no_terms;
+use arithmetic::combine::zeros;
 use codes::code::Code;
+use frame_writer::frame::Frame;
 use hextext::error::ReadError;
-use linktext::lines::slot_text;
 use sender::sender::Sender;
+use slotframe::show::show_slot;
 use std::alloc::{AllocError, Global};
-
-// So many zeros. Of a type that is not known, `vec!` says only that the elements are clones of one.
-fn zeros<A: Arithmetic>(heap: Global, count: usize) -> Result<Vec<A::Sym>, AllocError>
-    ensures { IfOk result (λ v. v.items ≡ replicate count A.Arithmetic.operations.symbols.zero) }
-{
-    let mut symbols = Vec::new(heap);
-    symbols.resize(count, no_terms::<A>())?;
-    Ok(symbols)
-}
 
 // A link while it runs: its sender, the packets that it sent last, and the block of a slot.
 #[derive(Drop)]
@@ -67,9 +59,10 @@ impl<A: Arithmetic, C: Code<A::Coef> + Drop> Link<A, C> {
         self.sender.send(slot, packet, history, block).unwrap();
     }
 
-    // Takes in one line: the packet of the next slot is read, sent and shown with its parities.
+    // Takes in one line: the packet of the next slot is read, sent, and shown with its parities and its frame.
     fn answer_line(&mut self, line: &[u8]) -> Result<String, ReadError>
         ensures answers { Answers string_bytes A.Arithmetic.operations A.Arithmetic.bytes (C.Code.shape self.old.sender.code) (C.Code.coefficients self.old.sender.code) self.old.sender.symbols self.old.sender.next line.now self.old.history.items self.new.history.items result }
+        ensures kept { IfLineRefused result (self.new ≡ self.old) }
         ensures code { self.new.sender.code ≡ self.old.sender.code }
         ensures symbols { self.new.sender.symbols ≡ self.old.sender.symbols }
         ensures next { OnOk result (self.new.sender.next ≡ self.old.sender.next + 1) }
@@ -78,8 +71,8 @@ impl<A: Arithmetic, C: Code<A::Coef> + Drop> Link<A, C> {
         let size = self.sender.packet_size();
         let packet = read_line::<A>(self.heap, line, slot, size)?;
         self.send(packet.as_slice());
-        let shown = slot_text::<A>(self.heap, slot, packet.as_slice(), &self.block[size..])?;
-        Ok(shown)
+        let frame = Frame::<A>::new(slot, self.sender.block_shape(), &self.block);
+        Ok(show_slot::<A>(self.heap, &frame)?)
     }
 
     // Takes in the lines, from the next slot on, until one is refused.

@@ -46,7 +46,7 @@ fn send_in(heap: Global, plan: &Plan, lines: Lines<'_>) -> Result<String, AllocE
     }
 }
 
-// What is printed for a link's text: the plan, and slot by slot each packet with its parities.
+// What is printed for a link's text: the plan, and slot by slot each packet with its parities and its frame, which is read back.
 pub fn transcript(heap: Global, text: &[u8]) -> Result<String, AllocError>
     ensures { IfOk result (λ s. TranscriptOf (lines_of text.now) (string_bytes s)) }
 {

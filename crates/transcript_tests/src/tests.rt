@@ -20,9 +20,35 @@ fn six_packets(rt: HostRuntime) -> Result<(), Fail> {
     let shown = transcript(rt.alloc(), b"1 2 2 1 F\n0102\n0304\n0506\n0708\n090a\n0b0c")?;
     assert_eq!(rt;
         shown.as_str(),
-        "plan B=1 m=2 alpha=2 L=1 byte arithmetic\nT=2 D=5 K=2 P=1 M=5\nslot 0 packet 0102 parities 00\nslot 1 packet 0304 parities 02\nslot 2 packet 0506 parities 05\nslot 3 packet 0708 parities 05\nslot 4 packet 090a parities 0c\nslot 5 packet 0b0c parities 0c\n"
+        "plan B=1 m=2 alpha=2 L=1 byte arithmetic\nT=2 D=5 K=2 P=1 M=5\nslot 0 packet 0102 parities 00\nword 0 10000000 slot 0\nword 1 22110001 shape K=2 P=1 width=1 L=1\nword 2 33010200 data 3 bytes 010200\nword 3 40000003 count 3\nread back 4 words: the same block\nslot 1 packet 0304 parities 02\nword 0 10000001 slot 1\nword 1 22110001 shape K=2 P=1 width=1 L=1\nword 2 33030402 data 3 bytes 030402\nword 3 40000003 count 3\nread back 4 words: the same block\nslot 2 packet 0506 parities 05\nword 0 10000002 slot 2\nword 1 22110001 shape K=2 P=1 width=1 L=1\nword 2 33050605 data 3 bytes 050605\nword 3 40000003 count 3\nread back 4 words: the same block\nslot 3 packet 0708 parities 05\nword 0 10000003 slot 3\nword 1 22110001 shape K=2 P=1 width=1 L=1\nword 2 33070805 data 3 bytes 070805\nword 3 40000003 count 3\nread back 4 words: the same block\nslot 4 packet 090a parities 0c\nword 0 10000004 slot 4\nword 1 22110001 shape K=2 P=1 width=1 L=1\nword 2 33090a0c data 3 bytes 090a0c\nword 3 40000003 count 3\nread back 4 words: the same block\nslot 5 packet 0b0c parities 0c\nword 0 10000005 slot 5\nword 1 22110001 shape K=2 P=1 width=1 L=1\nword 2 330b0c0c data 3 bytes 0b0c0c\nword 3 40000003 count 3\nread back 4 words: the same block\n"
     );
     Ok(())
+}
+
+// Symbols of four bytes, which the data words cut, and a last line without an end.
+#[test]
+fn words_unended(rt: HostRuntime) -> Result<(), Fail> {
+    let shown = transcript(rt.alloc(), b"1 1 1 1 W\n01020304\n05060708")?;
+    assert_eq!(rt;
+        shown.as_str(),
+        "plan B=1 m=1 alpha=1 L=1 word arithmetic\nT=1 D=1 K=1 P=1 M=1\nslot 0 packet 01020304 parities 00000000\nword 0 10000000 slot 0\nword 1 21140001 shape K=1 P=1 width=4 L=1\nword 2 33010203 data 3 bytes 010203\nword 3 33040000 data 3 bytes 040000\nword 4 32000000 data 2 bytes 0000\nword 5 40000005 count 5\nread back 6 words: the same block\nslot 1 packet 05060708 parities 01020304\nword 0 10000001 slot 1\nword 1 21140001 shape K=1 P=1 width=4 L=1\nword 2 33050607 data 3 bytes 050607\nword 3 33080102 data 3 bytes 080102\nword 4 32030400 data 2 bytes 0304\nword 5 40000005 count 5\nread back 6 words: the same block\n"
+    );
+    Ok(())
+}
+
+// The largest packet of a plan, 2,048 digits: its block has 1,152 bytes, in 384 data words.
+#[test]
+fn largest_packet(rt: HostRuntime) -> Result<(), Fail> {
+    let mut text = String::from_str(rt.alloc(), "1 8 1 32 W\n")?;
+    for _ in 0..1024_u16 {
+        text.push_str("a5")?;
+    }
+    last_line(
+        &rt,
+        rt.alloc(),
+        &text,
+        "read back 387 words: the same block",
+    )
 }
 
 // A plan's line that breaks its form, and one whose numbers are outside their limits.
@@ -71,10 +97,6 @@ fn packets_refused(rt: HostRuntime) -> Result<(), Fail> {
         ("1 2 1 1 F\n010203\n", "refused 4 line 2: "),
         ("1 1 1 1 W\n010203\n", "refused 4 line 2: "),
         ("1 1 1 1 W\n0102030405060708\n", "refused 4 line 2: "),
-        (
-            "1 1 1 1 W\n01020304\n05060708",
-            "slot 1 packet 05060708 parities 01020304",
-        ),
     ];
     for (text, start) in cases {
         last_line(&rt, rt.alloc(), text, start)?;

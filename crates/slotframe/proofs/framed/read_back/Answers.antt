@@ -1,29 +1,36 @@
-use Rattle.std.proofs.Common.{◌≡◌, true, string_bytes, refl, ap, ◌∙◌}
-use Rattle.std.proofs.lemmas.Result.{IfOk-weaker}
+use Rattle.std.proofs.Common.{◌≡◌, length, sym, ap, ◌∙◌, arith}
+use Rattle.std.proofs.lemmas.List.{length-replicate}
+use Rattle.fills.proofs.Fill.{over_all}
 use Rattle.frame_reader.specs.declared.read.Found.{Found}
-use Rattle.layout.specs.Frames.{words_of}
 use Rattle.frame_reader.specs.Reading.{found_as}
-use Rattle.frametext.specs.FrameText.{text_of_read_back}
-use Rattle.slotframe.proofs.Framing.{lies_there}
+use Rattle.layout.specs.Layout.{symbol_count}
+use Rattle.slotframe.proofs.Framing.{same_frame}
 use Rattle.slotframe.proofs.framed.read_back.Goals as goal
 
-pub unwrap-found-requires : goal.unwrap-found-requires
-unwrap-found-requires g c =
+pub returns-in_default-clause-same : goal.returns-in_default-clause-same
+returns-in_default-clause-same g c =
     let sent = c.args.frame.now in
-    rw (c.read.ensures.exactly sent.slot sent.shape sent.block.now c.requires.frame c.requires.room).0 refl
+    let room = ap length (c.deref_mut.ensures.value ∙ c.in_ok-block.ensures) ∙ length-replicate (length sent.block.now) g.A.Arithmetic.operations.symbols.zero in (
+      λ no. absurd (cc),
+      λ begins. absurd (c.in_default.not-Ok _ (c.read.ensures.exactly sent.slot sent.shape sent.block.now begins (omega (arith, room))).0),
+    )
 
-pub returns : goal.returns
-returns g c =
+pub returns-clause-same : goal.returns-clause-same
+returns-clause-same g c =
     let b = g.A.Arithmetic.bytes in
     let sent = c.args.frame.now in
-    let read = c.read.ensures.exactly sent.slot sent.shape sent.block.now c.requires.frame c.requires.room in
-    let is : c.unwrap-found.result ≡ found_as b sent.slot sent.shape = cc (read.0, c.unwrap-found.ensures) in
-    let same : c.is_same-same.result ≡ true =
-    c.is_same-same.ensures.1
-    (ap (λ (f : Found). f.slot) is, (ap (λ (f : Found). f.shape) is, lies_there sent.block.now c.args.back.now c.read.new.out read.1)) in
-    record {
-      read = read.1;
-      said = IfOk-weaker c.read_back_text.result _ (λ s. string_bytes s ≡ text_of_read_back (words_of b sent.slot sent.shape) true)
-          (λ s e. e ∙ ap (λ (f : Found). text_of_read_back f.words c.is_same-same.result) is ∙ ap (text_of_read_back (words_of b sent.slot sent.shape)) same)
-          c.read_back_text.ensures;
-    }
+    let room = ap length (c.deref_mut.ensures.value ∙ c.in_ok-block.ensures) ∙ length-replicate (length sent.block.now) g.A.Arithmetic.operations.symbols.zero in (
+      λ yes.
+          let is = c.is_same-same.ensures.0 yes in
+          let read = c.in-Ok.ensures.block in
+          let many = ap symbol_count is.1.0 in
+          let there = c.deref.ensures.value ∙ over_all read.block c.deref_mut.result.now c.read.new.out c.in_ok-block.block.items c.in_ok-block.block.len
+          (read.begins.0.long ∙ many ∙ sym sent.within.long ∙ sym room ∙ c.deref_mut.ensures.len) c.deref_mut.ensures.len read.laid in
+          same_frame b c.args.bytes.now sent.slot c.in-Ok.found.slot sent.shape c.in-Ok.found.shape sent.block.now read.block is.0 is.1.0 (sym there ∙ is.1.1) read.begins,
+      λ begins.
+          let read = c.read.ensures.exactly sent.slot sent.shape sent.block.now begins (omega (arith, room)) in
+          let is : c.in-Ok.found ≡ found_as b sent.slot sent.shape = cc (read.0, c.in-Ok.is) in
+          let there = c.deref.ensures.value ∙ over_all sent.block.now c.deref_mut.result.now c.read.new.out c.in_ok-block.block.items c.in_ok-block.block.len
+          (sym room ∙ c.deref_mut.ensures.len) c.deref_mut.ensures.len read.1 in
+          c.is_same-same.ensures.1 (ap (λ (f : Found). f.slot) is, (ap (λ (f : Found). f.shape) is, there)),
+    )

@@ -1,23 +1,27 @@
-use Rattle.std.proofs.Common.{◌≡◌, ℕ, List, ◌++◌, length, drop, string_bytes, ap, ◌∙◌, ap₂}
+use Rattle.std.proofs.Common.{◌≡◌, ℕ, List, [], ◌*◌, ◌++◌, string_bytes, sym, ap, ◌∙◌, ap₂, append-nil}
 use Rattle.std.proofs.lemmas.Result.{IfOk-weaker}
+use Rattle.fills.proofs.Fill.{over_all}
 use Rattle.layout.specs.Frames.{frame_of}
-use Rattle.frametext.specs.FrameText.{text_of_frame}
+use Rattle.frametext.specs.FrameText.{text_of_frame, text_of_read_back, words_in}
 use Rattle.slotframe.specs.Shown.{framed_text}
-use Rattle.slotframe.proofs.Framing.{words_at_front}
+use Rattle.slotframe.proofs.Framing.{length_of_block, words_of_block}
 use Rattle.slotframe.proofs.framed.show_frame.Goals as goal
 
-pub returns-clause-shown : goal.returns-clause-shown
+pub returns : goal.returns
 unfolding framed_text
-returns-clause-shown g c =
+returns g c =
     let b = g.A.Arithmetic.bytes in
+    let laws = g.met.A.Arithmetic.strings in
     let sent = c.args.frame.now in
-    let block = sent.block.now in
-    let wrote = rw c.unwrap-words.ensures at c.write.ensures.written in
-    let many = rw c.unwrap-words.ensures at c.write.ensures.words in
-    let words = words_at_front b g.met.A.Arithmetic.strings sent.slot sent.shape block sent.within c.write.new.out
-    (drop (length (frame_of b sent.slot sent.shape block)) c.args.bytes.now) c.unwrap-words.result wrote many in
-    IfOk-weaker c.format.result _ (λ s. string_bytes s ≡ framed_text b sent.slot sent.shape block)
+    let frame = frame_of b sent.slot sent.shape sent.block.now in
+    let bytes = c.in_ok-bytes.bytes in
+    let long = length_of_block b laws sent.slot sent.shape sent.block.now sent.within ∙ sym (c.in_ok-bytes.ensures.len ∙ ap (λ n. 4 * n) c.word_count.ensures.value) in
+    let held = over_all frame c.deref_mut.result.now c.write.new.out bytes.items bytes.len long c.deref_mut.ensures.len (rw c.unwrap.ensures at c.write.ensures.written) in
+    let words = ap words_in (c.deref.ensures.value ∙ held) ∙ words_of_block b laws sent.slot sent.shape sent.block.now sent.within in
+    let same = c.in_ok-back.ensures.same.1 (sent.within, ([], c.deref-2.ensures.value ∙ held ∙ sym (append-nil frame))) in
+    let got = c.in_ok-got.ensures ∙ ap₂ text_of_read_back (c.in_ok-back.ensures.words same) same in
+    IfOk-weaker c.format.result _ (λ s. string_bytes s ≡ framed_text b sent.slot sent.shape sent.block.now)
     (λ s e.
     let printed : string_bytes s ≡ string_bytes c.in_ok-shown.shown ++ string_bytes c.in_ok-got.got = e in
-    printed ∙ ap₂ (λ (t u : List ℕ). t ++ u) (c.in_ok-shown.ensures ∙ ap text_of_frame words) c.in_ok-got.ensures.said)
+    printed ∙ ap₂ (λ (t u : List ℕ). t ++ u) (c.in_ok-shown.ensures ∙ ap text_of_frame words) got)
     c.format.ensures.ok

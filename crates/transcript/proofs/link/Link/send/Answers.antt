@@ -1,16 +1,8 @@
-use Rattle.std.proofs.Common.{◌≡◌, ℕ, ◌*◌, List, ◌++◌, length, take, drop, ap, ◌∙◌, append-nil, add-mul, arith, length-append}
-use Rattle.std.proofs.lemmas.List.{drop_all, take_at}
+use Rattle.std.proofs.Common.{◌≡◌, ◌*◌, ◌++◌, length, add-mul, arith, length-append}
 use Rattle.std.proofs.lemmas.List.FromFn.{length-map-range_with_len}
+use Rattle.fills.proofs.Fill.{over_all}
 use Rattle.sender.specs.Block.{parities_of, symbol_of_parity}
 use Rattle.transcript.proofs.link.Link.send.Goals as goal
-
--- written over the front of a slice that is just as long
-over_all : {X : Type 0} (new old out items : List X) (n : ℕ) → length new ≡ n → length old ≡ n → out ≡ new ++ drop (length new) old
-    → take n (out ++ drop (length out) items) ≡ new
-over_all {X} new old out items n long room is =
-    let none = drop_all (length new) old (omega arith) in
-    let same : out ≡ new = is ∙ ap (λ (l : List X). new ++ l) none ∙ append-nil new in
-    rw same (take_at new (drop (length new) items) n long)
 
 pub returns-clause-block : goal.returns-clause-block
 returns-clause-block g c =
