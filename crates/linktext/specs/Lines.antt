@@ -33,7 +33,7 @@ advice UnfitShape n = codes "a packet has 1 to 8 sub-symbols, and a block 1 to 4
 advice ShortMemory n = codes "the history is too short: it holds as many packets as the code's memory says"
 advice OtherLength n = codes "the packet has another length than the plan's: m times L symbols, of 8 digits each for W and 2 for F"
 advice ShortOutput n = codes "the output is too short: it takes a whole block"
-advice OtherShape n = codes "the frame's K, P, L or width is another: compare the plan cards of truck and studio"
+advice OtherShape n = codes "the frame's symbols have another width: compare the plan cards of truck and studio"
 advice BrokenLine n =
     cond (n == 1) (codes "the first line is B m alpha L, decimal and without leading zeros, and W or F, one blank between, as in: 1 2 2 1 F")
     (codes "a packet is an even number of the digits 0 to 9 and a to f, and no line is longer than 2050 characters")

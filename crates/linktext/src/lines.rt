@@ -56,7 +56,7 @@ fn advice_on(refusal: Refusal, line: u64) -> &'static str
             "the packet has another length than the plan's: m times L symbols, of 8 digits each for W and 2 for F",
         Refusal::ShortOutput => "the output is too short: it takes a whole block",
         Refusal::OtherShape =>
-            "the frame's K, P, L or width is another: compare the plan cards of truck and studio",
+            "the frame's symbols have another width: compare the plan cards of truck and studio",
         Refusal::BrokenLine => {
             if line == 1 {
                 "the first line is B m alpha L, decimal and without leading zeros, and W or F, one blank between, as in: 1 2 2 1 F"
