@@ -3,6 +3,7 @@
 #![tactic(auto)]
 
 pub mod arithmetic;
+pub mod coefficients;
 pub mod combine;
 pub mod field;
 pub mod sum;
