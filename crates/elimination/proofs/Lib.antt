@@ -1,0 +1,4 @@
+pub mod Beginnings
+pub mod Reducing
+pub mod Settling
+pub mod Joining

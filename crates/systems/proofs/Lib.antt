@@ -1,0 +1,10 @@
+pub mod Sums
+pub mod Scaled
+pub mod Rows
+pub mod Steps
+pub mod Solve
+pub mod Content
+pub mod Reading
+pub mod Moving
+pub mod Zero
+pub mod Unique
