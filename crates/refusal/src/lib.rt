@@ -10,7 +10,7 @@ pub enum Refusal {
     OutsideLimits = 1,
     // A code whose packets have not 1 to 8 sub-symbols, or whose blocks not 1 to 4 parities.
     UnfitShape = 2,
-    // The history that was lent is too short.
+    // The memory that was lent is too short: a history, or the rows of a solver and the equations that it is handed.
     ShortMemory = 3,
     // A packet or a coefficient table of another length than its code has, or a block of another than its shape says.
     OtherLength = 4,

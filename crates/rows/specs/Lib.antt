@@ -1,0 +1,2 @@
+pub mod Limits
+pub mod Memory

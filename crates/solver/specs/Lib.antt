@@ -1,0 +1,4 @@
+pub mod Refusals
+pub mod BatchOutcome
+pub mod Copying
+pub mod Reading

@@ -1,0 +1,62 @@
+ghost use Rattle.std.specs.Prelude.{ℕ, ◌+◌, ◌<◌, ◌≤◌, ◌↔◌, length};
+ghost use Rattle.systems.specs.System.{rows, Solves};
+ghost use Rattle.systems.specs.Form.{SameRow, KeptFormOf};
+ghost use Rattle.elimination.specs.Progress.{Cleared, Joined};
+ghost use Rattle.rows.specs.Memory.{memory, Room};
+
+use arithmetic::arithmetic::Arithmetic;
+use arithmetic::coefficients::negative;
+use rows::size::Size;
+use rows::steps::{add_row, coefficient_at, first_column, move_row};
+
+// Takes from each unknown's row such a multiple of row `row` that the column is zero in it.
+fn clear_column<A: Arithmetic>(
+    size: &Size,
+    coefficients: &mut [A::Coef],
+    symbols: &mut [A::Sym],
+    row: usize,
+    column: usize,
+)
+    requires room { Room size.now (length coefficients.old) (length symbols.old) }
+    requires within { (row < rows size.now) × (column < size.now.unknowns) }
+    requires spare { size.now.unknowns ≤ row }
+    ensures { Cleared A.Arithmetic.operations size.now (memory A.Arithmetic.operations size.now coefficients.old symbols.old) (memory A.Arithmetic.operations size.now coefficients.new symbols.new) row column size.now.unknowns }
+{
+    for other in 0..size.unknowns() {
+        let c = negative::<A>(coefficient_at::<A>(size, coefficients, other, column));
+        add_row::<A>(size, coefficients, symbols, other, row, c);
+    }
+}
+
+// Makes what row `row` says the row of the unknown that it begins with.
+fn join_row<A: Arithmetic>(
+    size: &Size,
+    coefficients: &mut [A::Coef],
+    symbols: &mut [A::Sym],
+    row: usize,
+)
+    requires room { Room size.now (length coefficients.old) (length symbols.old) }
+    requires within { row < rows size.now }
+    requires spare { size.now.unknowns ≤ row }
+    requires joined { Joined A.Arithmetic.operations size.now (memory A.Arithmetic.operations size.now coefficients.old symbols.old) row }
+    ensures joined { Joined A.Arithmetic.operations size.now (memory A.Arithmetic.operations size.now coefficients.new symbols.new) (row + 1) }
+    ensures means { (x : _) → Solves A.Arithmetic.operations size.now (memory A.Arithmetic.operations size.now coefficients.new symbols.new) x ↔ Solves A.Arithmetic.operations size.now (memory A.Arithmetic.operations size.now coefficients.old symbols.old) x }
+    ensures behind { (r : ℕ) → rows size.now ≤ r → SameRow size.now (memory A.Arithmetic.operations size.now coefficients.new symbols.new) (memory A.Arithmetic.operations size.now coefficients.old symbols.old) r }
+{
+    if let Some(column) = first_column::<A>(size, coefficients, row) {
+        clear_column::<A>(size, coefficients, symbols, row, column);
+        move_row::<A>(size, coefficients, symbols, column, row);
+    }
+}
+
+// Makes what the spare rows say rows of unknowns.
+pub(crate) fn join<A: Arithmetic>(size: &Size, coefficients: &mut [A::Coef], symbols: &mut [A::Sym])
+    requires room { Room size.now (length coefficients.old) (length symbols.old) }
+    requires joined { Joined A.Arithmetic.operations size.now (memory A.Arithmetic.operations size.now coefficients.old symbols.old) size.now.unknowns }
+    ensures form { KeptFormOf A.Arithmetic.operations size.now (memory A.Arithmetic.operations size.now coefficients.new symbols.new) (Solves A.Arithmetic.operations size.now (memory A.Arithmetic.operations size.now coefficients.old symbols.old)) }
+    ensures behind { (r : ℕ) → rows size.now ≤ r → SameRow size.now (memory A.Arithmetic.operations size.now coefficients.new symbols.new) (memory A.Arithmetic.operations size.now coefficients.old symbols.old) r }
+{
+    for row in size.unknowns()..size.rows() {
+        join_row::<A>(size, coefficients, symbols, row);
+    }
+}

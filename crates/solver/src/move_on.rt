@@ -1,0 +1,57 @@
+ghost use Rattle.std.specs.Prelude.{◌≡◌, ◌<◌, ◌≤◌, length, OnErr, OnOk};
+ghost use Rattle.std.specs.Result.{result_err};
+ghost use Rattle.systems.specs.System.{rows};
+ghost use Rattle.systems.specs.Kept.{Kept};
+ghost use Rattle.systems.specs.Form.{KeptFormOf};
+ghost use Rattle.systems.specs.Moving.{Continues, Shifted};
+ghost use Rattle.rows.specs.Memory.{memory, Room, SameBehind};
+ghost use Rattle.solver.specs.Refusals.{move_refusal};
+
+use arithmetic::arithmetic::Arithmetic;
+use refusal::Refusal;
+use rows::size::Size;
+use rows::steps::{empty_row, shift_row};
+
+// Drops the rows of the oldest unknowns, and moves the others up and to the left.
+fn shift<A: Arithmetic>(
+    size: &Size,
+    coefficients: &mut [A::Coef],
+    symbols: &mut [A::Sym],
+    count: usize,
+)
+    requires room { Room size.now (length coefficients.old) (length symbols.old) }
+    requires some { (1 ≤ count) × (count ≤ size.now.unknowns) }
+    ensures { Shifted A.Arithmetic.operations size.now count (memory A.Arithmetic.operations size.now coefficients.old symbols.old) (memory A.Arithmetic.operations size.now coefficients.new symbols.new) }
+{
+    let staying = size.unknowns() - count;
+    for row in 0..staying {
+        shift_row::<A>(size, coefficients, symbols, row, count);
+    }
+    for row in staying..size.unknowns() {
+        empty_row::<A>(size, coefficients, symbols, row);
+    }
+}
+
+// The oldest `count` unknowns go, and as many new ones come in at the end, about which nothing is known. What the rows say about the others
+// together remains.
+pub fn move_on<A: Arithmetic>(
+    size: &Size,
+    coefficients: &mut [A::Coef],
+    symbols: &mut [A::Sym],
+    count: usize,
+) -> Result<(), Refusal>
+    requires kept { Room size.now (length coefficients.old) (length symbols.old) → Kept A.Arithmetic.operations size.now (memory A.Arithmetic.operations size.now coefficients.old symbols.old) }
+    ensures refusal { result_err result ≡ move_refusal size.now count (length coefficients.old) (length symbols.old) }
+    ensures unchanged { OnErr result ((coefficients.new ≡ coefficients.old) × (symbols.new ≡ symbols.old)) }
+    ensures form { OnOk result (KeptFormOf A.Arithmetic.operations size.now (memory A.Arithmetic.operations size.now coefficients.new symbols.new) (Continues A.Arithmetic.operations size.now count (memory A.Arithmetic.operations size.now coefficients.old symbols.old))) }
+    ensures behind { SameBehind size.now coefficients.old coefficients.new symbols.old symbols.new }
+{
+    if count < 1 || count > size.unknowns() {
+        return Err(Refusal::OutsideLimits);
+    }
+    if size.exceeds(coefficients.len(), symbols.len()) {
+        return Err(Refusal::ShortMemory);
+    }
+    shift::<A>(size, coefficients, symbols, count);
+    Ok(())
+}

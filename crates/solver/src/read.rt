@@ -1,0 +1,63 @@
+ghost use Rattle.std.specs.Prelude.{◌≡◌, ℕ, ◌<◌, ◌≤◌, ◌≢◌, ◌*◌, length, IfOk, MatchOption};
+ghost use Rattle.std.specs.Result.{result_err};
+ghost use Rattle.systems.specs.System.{rows};
+ghost use Rattle.systems.specs.Kept.{Kept};
+ghost use Rattle.systems.specs.Reading.{Differ};
+ghost use Rattle.rows.specs.Memory.{memory, coefficient, Room};
+ghost use Rattle.solver.specs.Refusals.{reading_refusal};
+ghost use Rattle.solver.specs.Reading.{Known};
+
+use arithmetic::arithmetic::Arithmetic;
+use arithmetic::coefficients::{one, zero};
+use arithmetic::sum::Sum;
+use refusal::Refusal;
+use rows::size::Size;
+use rows::steps::{coefficient_at, symbols_of};
+
+// A column besides this one where the row is not zero.
+fn other_column<A: Arithmetic>(
+    size: &Size,
+    coefficients: &[A::Coef],
+    row: usize,
+    column: usize,
+) -> Option<usize>
+    requires room { rows size.now * size.now.unknowns ≤ length coefficients.now }
+    requires within { row < rows size.now }
+    ensures { MatchOption result ((v : ℕ) → v < size.now.unknowns → v ≢ column → coefficient A.Arithmetic.operations size.now coefficients.now row v ≡ A.Arithmetic.operations.coefficients.zero) (λ v. (v < size.now.unknowns) × (v ≢ column) × (coefficient A.Arithmetic.operations size.now coefficients.now row v ≢ A.Arithmetic.operations.coefficients.zero)) }
+{
+    for other in 0..size.unknowns() {
+        if other != column
+            && !coefficient_at::<A>(size, coefficients, row, other).same(zero::<A>())
+        {
+            return Some(other);
+        }
+    }
+    None
+}
+
+// The symbols of an unknown, if all contents that the memory stands for share them.
+pub fn read<'m, A: Arithmetic>(
+    size: &Size,
+    coefficients: &[A::Coef],
+    symbols: &'m [A::Sym],
+    unknown: usize,
+) -> Result<Option<&'m [A::Sym]>, Refusal>
+    requires kept { Room size.now (length coefficients.now) (length symbols.now) → Kept A.Arithmetic.operations size.now (memory A.Arithmetic.operations size.now coefficients.now symbols.now) }
+    ensures refusal { result_err result ≡ reading_refusal size.now unknown (length coefficients.now) (length symbols.now) }
+    ensures says { IfOk result (λ read. MatchOption read (Differ A.Arithmetic.operations size.now (memory A.Arithmetic.operations size.now coefficients.now symbols.now) unknown) (λ given. Known A.Arithmetic.operations size.now (memory A.Arithmetic.operations size.now coefficients.now symbols.now) unknown given.now)) }
+{
+    if unknown >= size.unknowns() {
+        return Err(Refusal::OutsideLimits);
+    }
+    if size.exceeds(coefficients.len(), symbols.len()) {
+        return Err(Refusal::ShortMemory);
+    }
+    if !coefficient_at::<A>(size, coefficients, unknown, unknown).same(one::<A>()) {
+        return Ok(None);
+    }
+    // Two contents differ by what this other one holds.
+    if let Some(_other) = other_column::<A>(size, coefficients, unknown, unknown) {
+        return Ok(None);
+    }
+    Ok(Some(symbols_of::<A>(size, symbols, unknown)))
+}
