@@ -18,14 +18,14 @@ pub record SettledRow {F S : Type 0} (o : Operations F S) (z : Size) (old new : 
   pub means : (x : ℕ → ℕ → S) → HoldBelow o z old t x → Holds o z new x t ↔ Holds o z old x t
   pub led : Led o z new (t + 1)
 
--- each of the rows below t says nothing or leads and say together what they said; those of the unknowns, and those from t on, stay
+-- each of the rows below t says nothing or leads, and together they say what they said; those of the unknowns, and those from t on, stay
 pub record Settled {F S : Type 0} (o : Operations F S) (z : Size) (old new : System F S) (t : ℕ) : Type 0 where
   pub front : (r : ℕ) → r < z.unknowns → SameRow z new old r
   pub ahead : (r : ℕ) → t ≤ r → SameRow z new old r
   pub led : Led o z new t
   pub means : (x : ℕ → ℕ → S) → HoldBelow o z new t x ↔ HoldBelow o z old t x
 
--- the first i rows have gained such multiples of row t that their column u is zero; all other rows stay
+-- each of the first i rows has gained row t, times the negative of its own coefficient in column u; all other rows stay
 pub record Cleared {F S : Type 0} (o : Operations F S) (z : Size) (old new : System F S) (t u i : ℕ) : Type 0 where
   pub coefficients : (r v : ℕ) → r < i → v < z.unknowns
       → new.coefficient r v ≡ o.coefficients.plus (old.coefficient r v) (o.products.times (o.coefficients.negative (old.coefficient r u)) (old.coefficient t v))

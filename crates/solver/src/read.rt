@@ -44,7 +44,7 @@ pub fn read<'m, A: Arithmetic>(
 ) -> Result<Option<&'m [A::Sym]>, Refusal>
     requires kept { Room size.now (length coefficients.now) (length symbols.now) → Kept A.Arithmetic.operations size.now (memory A.Arithmetic.operations size.now coefficients.now symbols.now) }
     ensures refusal { result_err result ≡ reading_refusal size.now unknown (length coefficients.now) (length symbols.now) }
-    ensures says { IfOk result (λ read. MatchOption read (Differ A.Arithmetic.operations size.now (memory A.Arithmetic.operations size.now coefficients.now symbols.now) unknown) (λ given. Known A.Arithmetic.operations size.now (memory A.Arithmetic.operations size.now coefficients.now symbols.now) unknown given.now)) }
+    ensures says { IfOk result (λ read. MatchOption read (Differ A.Arithmetic.operations size.now (memory A.Arithmetic.operations size.now coefficients.now symbols.now) unknown) (λ known. Known A.Arithmetic.operations size.now (memory A.Arithmetic.operations size.now coefficients.now symbols.now) unknown known.now)) }
 {
     if unknown >= size.unknowns() {
         return Err(Refusal::OutsideLimits);

@@ -16,7 +16,7 @@ const BEHIND: usize = 5;
 
 // A memory under test, and the equations that wait to be taken in.
 #[derive(Drop)]
-pub struct Bench<A: Arithmetic> {
+pub(crate) struct Bench<A: Arithmetic> {
     size: Size,
     coefficients: Vec<A::Coef>,
     symbols: Vec<A::Sym>,
@@ -36,7 +36,7 @@ fn is_untouched<T: Sum>(items: &[T], rows: usize, width: usize, filling: T) -> b
 
 impl<A: Written> Bench<A> {
     // Whatever lay in memory before: a call that leaves out a place to be written is noticed.
-    pub fn new(heap: Global, size: Size) -> Result<Bench<A>, AllocError> {
+    pub(crate) fn new(heap: Global, size: Size) -> Result<Bench<A>, AllocError> {
         let mut coefficients = Vec::new(heap);
         coefficients.resize(size.rows() * size.unknowns() + BEHIND, A::Coef::one())?;
         let mut symbols = Vec::new(heap);
@@ -50,7 +50,7 @@ impl<A: Written> Bench<A> {
         })
     }
 
-    pub fn is_waiting(&self) -> bool {
+    pub(crate) fn is_waiting(&self) -> bool {
         !self.given_coefficients.is_empty()
     }
 
@@ -85,7 +85,7 @@ impl<A: Written> Bench<A> {
         Ok(())
     }
 
-    pub fn start(&mut self, found: &mut String) -> anyhow::Result<()> {
+    pub(crate) fn start(&mut self, found: &mut String) -> anyhow::Result<()> {
         write_zero::<A>(&self.size, &mut self.coefficients, &mut self.symbols).map_err(
             Fault::Refused,
         )?;
@@ -93,14 +93,19 @@ impl<A: Written> Bench<A> {
         self.show(found)
     }
 
-    pub fn move_on(&mut self, count: usize, found: &mut String) -> anyhow::Result<()> {
+    pub(crate) fn move_on(&mut self, count: usize, found: &mut String) -> anyhow::Result<()> {
         move_on_kept::<A>(&self.size, &mut self.coefficients, &mut self.symbols, count)?;
         found.push_str("moved\n")?;
         self.show(found)
     }
 
     // An equation that waits to be taken in.
-    pub fn give(&mut self, heap: Global, coefficients: &str, symbols: &str) -> anyhow::Result<()> {
+    pub(crate) fn give(
+        &mut self,
+        heap: Global,
+        coefficients: &str,
+        symbols: &str,
+    ) -> anyhow::Result<()> {
         let coefficients = A::read_coefficients(heap, coefficients)?;
         let symbols = read_symbols::<A>(heap, symbols)?;
         ensure!(
@@ -113,7 +118,7 @@ impl<A: Written> Bench<A> {
     }
 
     // Takes in the first of the equations that wait; the others must not count, and none waits any longer.
-    pub fn take_in(
+    pub(crate) fn take_in(
         &mut self,
         heap: Global,
         count: usize,
@@ -150,7 +155,7 @@ impl<A: Written> Bench<A> {
         }
     }
 
-    pub fn read(&self, found: &mut String) -> anyhow::Result<()> {
+    pub(crate) fn read(&self, found: &mut String) -> anyhow::Result<()> {
         for unknown in 0..self.size.unknowns() {
             write!(found, "unknown {unknown} ")?;
             match read_kept::<A>(&self.size, &self.coefficients, &self.symbols, unknown)? {

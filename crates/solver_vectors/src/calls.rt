@@ -13,7 +13,7 @@ use std::fmt;
 
 // Why a call was not carried out.
 #[derive(Clone, Copy, PartialEq, Eq, Debug)]
-pub enum Fault {
+pub(crate) enum Fault {
     // The call before left a memory that is in no kept form.
     NotKept,
     Refused(Refusal),
@@ -39,7 +39,7 @@ impl From<Refusal> for Fault {
     }
 }
 
-pub fn move_on_kept<A: Arithmetic>(
+pub(crate) fn move_on_kept<A: Arithmetic>(
     size: &Size,
     coefficients: &mut [A::Coef],
     symbols: &mut [A::Sym],
@@ -52,7 +52,7 @@ pub fn move_on_kept<A: Arithmetic>(
     Ok(())
 }
 
-pub fn take_in_kept<A: Arithmetic>(
+pub(crate) fn take_in_kept<A: Arithmetic>(
     size: &Size,
     coefficients: &mut [A::Coef],
     symbols: &mut [A::Sym],
@@ -65,7 +65,7 @@ pub fn take_in_kept<A: Arithmetic>(
     Ok(take_in::<A>(size, coefficients, symbols, given, count)?)
 }
 
-pub fn read_kept<'m, A: Arithmetic>(
+pub(crate) fn read_kept<'m, A: Arithmetic>(
     size: &Size,
     coefficients: &[A::Coef],
     symbols: &'m [A::Sym],

@@ -7,7 +7,7 @@ use std::alloc::{AllocError, Global};
 use word::{Bit, WordArithmetic};
 
 // Symbols as text, as the symbols of a packet are.
-pub fn read_symbols<A: Arithmetic>(heap: Global, text: &str) -> anyhow::Result<Vec<A::Sym>> {
+pub(crate) fn read_symbols<A: Arithmetic>(heap: Global, text: &str) -> anyhow::Result<Vec<A::Sym>> {
     match read_packet::<A>(heap, text.as_bytes()) {
         Ok(symbols) => Ok(symbols),
         Err(_) => bail!("{text:?} is not read as symbols"),
@@ -15,7 +15,7 @@ pub fn read_symbols<A: Arithmetic>(heap: Global, text: &str) -> anyhow::Result<V
 }
 
 // Coefficients as text: how depends on the arithmetic, of which no more is known here than its laws.
-pub trait Written: Arithmetic {
+pub(crate) trait Written: Arithmetic {
     fn read_coefficients(heap: Global, text: &str) -> anyhow::Result<Vec<Self::Coef>>;
 
     fn write_coefficients(text: &mut String, coefficients: &[Self::Coef]) -> Result<(), AllocError>;

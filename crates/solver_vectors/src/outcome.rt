@@ -44,7 +44,7 @@ fn steps<A: Written>(heap: Global, size: Size, lines: Lines) -> anyhow::Result<S
 }
 
 // What comes of a system: its first line has its arithmetic and its size, and each further one is a step.
-pub fn outcome(heap: Global, handed_in: &str) -> anyhow::Result<String> {
+pub(crate) fn outcome(heap: Global, handed_in: &str) -> anyhow::Result<String> {
     let mut lines = handed_in.lines();
     let head = lines.next().context("a system of no lines")?;
     let words: Vec<&str> = head.split(' ').collect(heap)?;
