@@ -1,5 +1,5 @@
-// What every arithmetic has: sums, coefficients with products and inverses, symbols that coefficients scale.
-// All that lies above knows an arithmetic only by these traits and their laws.
+//! What every arithmetic has: sums, coefficients with products and inverses, symbols that coefficients scale.
+//! All that lies above knows an arithmetic only by these traits and their laws.
 #![tactic(auto)]
 
 pub mod arithmetic;

@@ -3,15 +3,17 @@ use Rattle.std.specs.Prelude.{◌≡◌, ℕ, zero, suc, ◌<◌, List, [], ◌�
 use Rattle.std.proofs.Common.{sym, ◌∙◌, ap, ap₂, subst, inl, arith}
 use Rattle.std.proofs.lemmas.Bool.{eq-eqb, ne_eqb}
 use Rattle.std.specs.List.{AllByRecursion}
-use Rattle.arithmetic.specs.Laws.{SumLaws, ProductLaws, ScaleLaws, ArithmeticLaws, ByteLaws}
+use Rattle.arithmetic.specs.Laws.{ProductLaws, ScaleLaws, ArithmeticLaws, ByteLaws}
 use Rattle.galois.specs.Product.{product, reciprocal}
 use Rattle.galois.proofs.Linear.{product_left, product_right}
 use Rattle.galois.proofs.Laws.{product_below, product_comm, product_assoc, one_product, product_reciprocal, reciprocal_below}
 use Rattle.byte.specs.declared.element.Byte.{Byte}
+use Rattle.byte.specs.declared.symbol.ByteSymbol.{ByteSymbol}
 use Rattle.byte.specs.Field.{byte, value_of, byte_sums, byte_products, inverse_of}
-use Rattle.byte.specs.Arithmetic.{byte_operations, byte_strings}
-use Rattle.arithmetic.proofs.XorLaws.{xor_value, xor_laws}
-use Rattle.byte.specs.Equal.{byte_numbers, byte_value, is_byte}
+use Rattle.byte.specs.Symbols.{symbol, value_of_symbol, symbol_sums}
+use Rattle.byte.specs.Arithmetic.{byte_scale, byte_operations, byte_strings}
+use Rattle.arithmetic.proofs.XorLaws.{xor_value}
+use Rattle.byte.specs.Equal.{byte_numbers, symbol_numbers, byte_value, is_byte, is_symbol, byte_sum_laws, symbol_sum_laws}
 
 sum_value : (a b : Byte) → (byte_sums.plus a b).value ≡ bit_xor a.value b.value
 sum_value = xor_value 8 value_of byte byte_numbers
@@ -19,11 +21,17 @@ sum_value = xor_value 8 value_of byte byte_numbers
 times_value : (a b : Byte) → (byte_products.times a b).value ≡ product a.value b.value
 times_value a b = byte_value (product a.value b.value) (product_below a.value b.value a.ok)
 
-pub byte_sum_laws : SumLaws byte_sums
-byte_sum_laws = xor_laws 8 value_of byte byte_numbers
+symbol_sum_value : (x y : ByteSymbol) → (symbol_sums.plus x y).value ≡ bit_xor x.value y.value
+symbol_sum_value = xor_value 8 value_of_symbol symbol symbol_numbers
+
+scale_value : (c : Byte) (x : ByteSymbol) → (byte_scale c x).value ≡ product c.value x.value
+scale_value c x = byte_value (product c.value x.value) (product_below c.value x.value c.ok)
 
 one_not_zero : byte 1 ≡ byte 0 → ⊥
-one_not_zero p = let e : ◌≡◌ {A = ℕ} 1 0 = ap (λ (b : Byte). b.value) p in omega arith
+one_not_zero p = let e : ◌≡◌ {A = ℕ} 1 0 = ap value_of p in omega arith
+
+mark_not_zero : symbol 1 ≡ symbol 0 → ⊥
+mark_not_zero p = let e : ◌≡◌ {A = ℕ} 1 0 = ap value_of_symbol p in omega arith
 
 inverse_law : (v : ℕ) (a : Byte) → a.value ≡ v → MatchOption (inverse_of a) (a ≡ byte 0) (λ b. byte_products.times a b ≡ byte 1)
 inverse_law zero a e = rw (eq-eqb a.value 0 e) (is_byte a 0 e)
@@ -46,15 +54,24 @@ byte_product_laws = record {
 
 pub byte_scale_laws : ScaleLaws byte_operations
 byte_scale_laws = record {
-  over_symbols = byte_product_laws.distributes;
-  over_coefficients = λ x y z. ap byte (ap (λ (n : ℕ). product n z.value) (sum_value x y) ∙ product_left z.value x.value y.value ∙ ap₂ bit_xor (sym (times_value x z)) (sym (times_value y z)));
-  by_product = byte_product_laws.assoc;
-  by_one = byte_product_laws.one_times;
-  mark_not_zero = one_not_zero;
+  over_symbols = λ c x y.
+      ap symbol
+      (ap (product c.value) (symbol_sum_value x y) ∙ product_right c.value x.value y.value
+      ∙ ap₂ bit_xor (sym (scale_value c x)) (sym (scale_value c y)));
+  over_coefficients = λ a b x.
+      ap symbol
+      (ap (λ (n : ℕ). product n x.value) (sum_value a b) ∙ product_left x.value a.value b.value
+      ∙ ap₂ bit_xor (sym (scale_value a x)) (sym (scale_value b x)));
+  by_product = λ a b x.
+      ap symbol
+      (ap (λ (n : ℕ). product n x.value) (times_value a b) ∙ product_assoc a.value b.value x.value a.ok b.ok x.ok
+      ∙ ap (product a.value) (sym (scale_value b x)));
+  by_one = λ x. ap symbol (one_product x.value x.ok) ∙ sym (is_symbol x x.value refl);
+  mark_not_zero = mark_not_zero;
 }
 
 pub byte_laws : ArithmeticLaws byte_operations
-byte_laws = record { coefficients = byte_sum_laws; products = byte_product_laws; symbols = byte_sum_laws; scaling = byte_scale_laws }
+byte_laws = record { coefficients = byte_sum_laws; products = byte_product_laws; symbols = symbol_sum_laws; scaling = byte_scale_laws }
 
 -- a string of one byte, written again as it was read
 rewritten : (ns : List ℕ) → length ns ≡ 1 → AllByRecursion (λ n. n < 256) ns → byte_strings.write (byte_strings.read ns) ≡ ns
@@ -67,6 +84,6 @@ byte_string_laws = record {
   widths = inl refl;
   long = λ x. refl;
   small = λ x. (x.ok, tt);
-  back = λ x. sym (is_byte x x.value refl);
+  back = λ x. sym (is_symbol x x.value refl);
   forth = rewritten;
 }

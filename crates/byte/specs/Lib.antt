@@ -1,4 +1,5 @@
 pub mod Field
+pub mod Symbols
 pub mod Arithmetic
 pub mod Laws
 pub mod Equal

@@ -1,7 +1,8 @@
+//! Coefficients: the elements of the field.
 ghost use Rattle.std.specs.Prelude.{◌≡◌, ◌<◌};
 
-// An element of the field of 256 elements. The bits are the coefficients of a polynomial, the lowest that of 1.
-// `Word` has the same form. One generic type for both would have to stand below both, and `Field` could then not be implemented for it here.
+// `Word` and `ByteSymbol` have the same form. One generic type for all would have to stand below them, and `Field` could then not be implemented for it here.
+/// A coefficient: an element of the field of 256 elements. The bits are the coefficients of a polynomial, the lowest that of 1.
 #[derive(Clone, Copy, PartialEq, Eq, Debug)]
 pub struct Byte {
     value: u8,
@@ -9,12 +10,14 @@ pub struct Byte {
 }
 
 impl Byte {
+    /// The element whose bits are those of the byte.
     pub fn new(value: u8) -> Byte
         ensures { result.value ≡ value }
     {
         Byte { value }
     }
 
+    /// The byte of the element.
     pub fn value(self) -> u8
         ensures { result ≡ self.value }
     {

@@ -1,7 +1,8 @@
+//! The field: sums, products and inverses of its elements.
 ghost use Rattle.std.specs.Prelude.{◌≡◌};
 ghost use Rattle.galois.specs.Product.{reciprocal as reciprocal_of};
 ghost use Rattle.byte.specs.Field.{byte_sums, byte_products};
-ghost use Rattle.byte.specs.Laws.{byte_sum_laws, byte_product_laws};
+ghost use Rattle.byte.specs.Equal.{byte_sum_laws};
 
 use crate::element::Byte;
 use arithmetic::field::Field;
@@ -33,8 +34,6 @@ impl Sum for Byte {
 
 impl Field for Byte {
     ghost product = { byte_products };
-
-    ghost products = { byte_product_laws };
 
     fn one() -> Byte {
         Byte::new(1)

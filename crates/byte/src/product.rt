@@ -1,3 +1,4 @@
+//! Products in the field.
 ghost use Rattle.std.specs.Prelude.{◌≡◌};
 ghost use Rattle.galois.specs.Product.{double as double_of, product as product_of};
 ghost use Rattle.galois.specs.Remainder.{carryless, Remainder};
@@ -5,7 +6,8 @@ ghost use Rattle.galois.specs.Remainder.{carryless, Remainder};
 use crate::element::Byte;
 
 impl Byte {
-    // The product of the two polynomials, modulo the field's: the sum of this byte's doublings at the bits of the other.
+    /// The product of the two polynomials, modulo the field's: the sum of this byte's doublings at the bits of the other.
+    #[inline]
     pub fn product(self, other: Byte) -> Byte
         ensures value { result.value ≡ product_of self.value other.value }
         ensures remainder { Remainder (carryless 8 self.value other.value) result.value }
@@ -25,6 +27,7 @@ impl Byte {
 }
 
 // Times x. A ninth bit is taken off by the field's polynomial, 285.
+#[inline]
 fn double(value: u8) -> u8
     ensures { result ≡ double_of value }
 {

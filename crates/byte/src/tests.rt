@@ -1,5 +1,6 @@
-// Worked examples by hand; the crate `byte_products` compares all products and inverses with another library's.
+//! Worked examples by hand; the crate `byte_products` compares all products and inverses with another library's.
 use crate::element::Byte;
+use crate::symbol::ByteSymbol;
 use crate::whole::ByteArithmetic;
 use arithmetic::arithmetic::Arithmetic;
 use arithmetic::field::Field;
@@ -26,9 +27,15 @@ fn inverses(rt: HostRuntime) -> Result<(), Fail> {
 }
 
 #[test]
+fn scaling(rt: HostRuntime) {
+    let scaled = ByteArithmetic::scale(Byte::new(2), ByteSymbol::new(128));
+    assert_eq!(rt; scaled.value(), 29);
+}
+
+#[test]
 fn strings(rt: HostRuntime) {
     let seven = ByteArithmetic::from_bytes([7, 1, 2, 3]);
-    assert!(rt; seven.same(Byte::new(7)));
-    let four = ByteArithmetic::to_bytes(seven.plus(Byte::new(3)));
+    assert!(rt; seven.same(ByteSymbol::new(7)));
+    let four = ByteArithmetic::to_bytes(seven.plus(ByteSymbol::new(3)));
     assert!(rt; four[0] == 4);
 }

@@ -1,3 +1,4 @@
+//! A memory under test.
 use crate::calls::{Fault, move_on_kept, read_kept, take_in_kept};
 use crate::coefficients::{Written, read_symbols};
 use anyhow::ensure;
@@ -117,7 +118,8 @@ impl<A: Written> Bench<A> {
         Ok(())
     }
 
-    // Takes in the first of the equations that wait; the others must not count, and none waits any longer.
+    // Takes in the first of the equations that wait; the others must not count, and none waits any
+    // longer.
     pub(crate) fn take_in(
         &mut self,
         heap: Global,

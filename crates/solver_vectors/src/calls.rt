@@ -1,4 +1,4 @@
-// The calls that require a memory in kept form, each behind the test of it.
+//! The calls that require a memory in kept form, each behind the test of it.
 use arithmetic::arithmetic::Arithmetic;
 use refusal::Refusal;
 use rows::equations::Equations;

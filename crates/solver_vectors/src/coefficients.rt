@@ -1,8 +1,9 @@
+//! Coefficients and symbols as text.
 use anyhow::bail;
 use arithmetic::arithmetic::Arithmetic;
-use byte::ByteArithmetic;
+use byte::{Byte, ByteArithmetic};
 use hextext::read::read_packet;
-use hextext::write::write_packet;
+use hextext::write::write_bytes;
 use std::alloc::{AllocError, Global};
 use word::{Bit, WordArithmetic};
 
@@ -14,7 +15,8 @@ pub(crate) fn read_symbols<A: Arithmetic>(heap: Global, text: &str) -> anyhow::R
     }
 }
 
-// Coefficients as text: how depends on the arithmetic, of which no more is known here than its laws.
+// Coefficients as text: how depends on the arithmetic, of which no more is known here than its
+// laws.
 pub(crate) trait Written: Arithmetic {
     fn read_coefficients(heap: Global, text: &str) -> anyhow::Result<Vec<Self::Coef>>;
 
@@ -48,14 +50,16 @@ impl Written for WordArithmetic {
 
 // A byte is two digits, as it is as a symbol.
 impl Written for ByteArithmetic {
-    fn read_coefficients(heap: Global, text: &str) -> anyhow::Result<Vec<byte::Byte>> {
-        read_symbols::<ByteArithmetic>(heap, text)
+    fn read_coefficients(heap: Global, text: &str) -> anyhow::Result<Vec<Byte>> {
+        let symbols = read_symbols::<ByteArithmetic>(heap, text)?;
+        let bytes = symbols.iter().map(|symbol| Byte::new(symbol.value()));
+        Ok(bytes.collect(heap)?)
     }
 
-    fn write_coefficients(
-        text: &mut String,
-        coefficients: &[byte::Byte],
-    ) -> Result<(), AllocError> {
-        write_packet::<ByteArithmetic>(text, coefficients)
+    fn write_coefficients(text: &mut String, coefficients: &[Byte]) -> Result<(), AllocError> {
+        for byte in coefficients {
+            write_bytes(text, &[byte.value()])?;
+        }
+        Ok(())
     }
 }

@@ -1,4 +1,5 @@
-// Compares what the solver makes of many systems of equations with what an independent program computed: `data/README.md` says how.
+//! Compares what the solver makes of many systems of equations with what an independent program
+//! computed: `data/README.md` says how.
 #![tactic(auto)]
 
 mod bench;

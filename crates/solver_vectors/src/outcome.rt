@@ -1,3 +1,4 @@
+//! What comes of a system.
 use crate::bench::Bench;
 use crate::coefficients::Written;
 use anyhow::{Context, bail};
@@ -43,7 +44,8 @@ fn steps<A: Written>(heap: Global, size: Size, lines: Lines) -> anyhow::Result<S
     Ok(found)
 }
 
-// What comes of a system: its first line has its arithmetic and its size, and each further one is a step.
+// What comes of a system: its first line has its arithmetic and its size, and each further one is a
+// step.
 pub(crate) fn outcome(heap: Global, handed_in: &str) -> anyhow::Result<String> {
     let mut lines = handed_in.lines();
     let head = lines.next().context("a system of no lines")?;

@@ -1,9 +1,9 @@
-// What is a kept form, and what each call refuses, and that it then changes nothing. The memory has two unknowns of one symbol, and one
-// spare row.
+//! What is a kept form, and what each call refuses, and that it then changes nothing. The memory
+//! has two unknowns of one symbol, and one spare row.
 ghost use Rattle.std.specs.Prelude.{◌≡◌};
 
 use crate::calls::{Fault, move_on_kept, read_kept, take_in_kept};
-use byte::{Byte, ByteArithmetic};
+use byte::{Byte, ByteArithmetic, ByteSymbol};
 use refusal::Refusal;
 use rows::equations::Equations;
 use rows::size::Size;
@@ -15,7 +15,8 @@ use solver::zero::write_zero;
 use std::process::Abort;
 use word::{Bit, Word, WordArithmetic};
 
-// Which size it is stands in the contract: some calls need no kept form where a memory is too short, and that has to be seen.
+// Which size it is stands in the contract: some calls need no kept form where a memory is too
+// short, and that has to be seen.
 fn size(rt: &impl Abort) -> Size
     ensures { result ≡ record { unknowns = 2; spare = 1; symbols = 1 } }
 {
@@ -37,18 +38,18 @@ fn sizes(rt: HostRuntime) {
 #[test]
 fn short_memory(rt: HostRuntime) {
     let size = size(&rt);
-    let seven = Byte::new(7);
+    let (coefficient, symbol) = (Byte::new(7), ByteSymbol::new(7));
     for (c, s) in [(5, 3), (6, 2), (0, 0)] {
-        let mut coefficients = [seven; 6];
-        let mut symbols = [seven; 3];
+        let mut coefficients = [coefficient; 6];
+        let mut symbols = [symbol; 3];
         let written = write_zero::<ByteArithmetic>(
             &size,
             &mut coefficients[..c],
             &mut symbols[..s],
         );
         assert!(rt; written == Err(Refusal::ShortMemory));
-        assert!(rt; coefficients == [seven; 6]);
-        assert!(rt; symbols == [seven; 3]);
+        assert!(rt; coefficients == [coefficient; 6]);
+        assert!(rt; symbols == [symbol; 3]);
         let kept = is_kept::<ByteArithmetic>(&size, &coefficients[..c], &symbols[..s]);
         assert!(rt; kept == Err(Refusal::ShortMemory));
     }
@@ -66,7 +67,8 @@ fn word(number: u8) -> Word {
     Word::new(u32::from(number))
 }
 
-// Memories in kept form and others, by their coefficients and symbols. Each is tried over both arithmetics.
+// Memories in kept form and others, by their coefficients and symbols. Each is tried over both
+// arithmetics.
 #[test]
 fn forms(rt: HostRuntime) {
     let size = size(&rt);
@@ -93,28 +95,29 @@ fn forms(rt: HostRuntime) {
         let kept = is_kept::<WordArithmetic>(&size, &bits, &words);
         assert!(rt; kept == Ok(is));
         let coefficients: [Byte; 6] = coefficients.map(Byte::new);
-        let symbols: [Byte; 3] = symbols.map(Byte::new);
+        let symbols: [ByteSymbol; 3] = symbols.map(ByteSymbol::new);
         let kept = is_kept::<ByteArithmetic>(&size, &coefficients, &symbols);
         assert!(rt; kept == Ok(is));
     }
     // A row begins with another coefficient than one, and no bit is that.
     let coefficients: [Byte; 6] = [2, 0, 0, 1, 0, 0].map(Byte::new);
-    let symbols: [Byte; 3] = [7, 8, 0].map(Byte::new);
+    let symbols: [ByteSymbol; 3] = [7, 8, 0].map(ByteSymbol::new);
     let kept = is_kept::<ByteArithmetic>(&size, &coefficients, &symbols);
     assert!(rt; kept == Ok(false));
 }
 
-// Numbers outside their limits come first, and then a memory that is too short, here by one coefficient.
+// Numbers outside their limits come first, and then a memory that is too short, here by one
+// coefficient.
 #[test]
 fn order(rt: HostRuntime) {
     let size = size(&rt);
-    let seven = Byte::new(7);
+    let (coefficient, symbol) = (Byte::new(7), ByteSymbol::new(7));
     let given = Equations::<ByteArithmetic> {
-        coefficients: &[seven; 2],
-        symbols: &[seven],
+        coefficients: &[coefficient; 2],
+        symbols: &[symbol],
     };
-    let mut coefficients = [seven; 5];
-    let mut symbols = [seven; 3];
+    let mut coefficients = [coefficient; 5];
+    let mut symbols = [symbol; 3];
     for (count, why) in [
         (1, Refusal::ShortMemory),
         (2, Refusal::ShortMemory),
@@ -149,8 +152,8 @@ fn order(rt: HostRuntime) {
         let known = read::<ByteArithmetic>(&size, &coefficients, &symbols, unknown).err();
         assert!(rt; known == Some(why));
     }
-    assert!(rt; coefficients == [seven; 5]);
-    assert!(rt; symbols == [seven; 3]);
+    assert!(rt; coefficients == [coefficient; 5]);
+    assert!(rt; symbols == [symbol; 3]);
 }
 
 // Numbers outside their limits, where the memory is long enough and in kept form.
@@ -158,15 +161,16 @@ fn order(rt: HostRuntime) {
 fn moves(rt: HostRuntime) {
     let size = size(&rt);
     let (zero, one) = (Byte::new(0), Byte::new(1));
+    let nothing = ByteSymbol::new(0);
     let mut coefficients = [zero; 6];
-    let mut symbols = [zero; 3];
+    let mut symbols = [nothing; 3];
     let written = write_zero::<ByteArithmetic>(&size, &mut coefficients, &mut symbols);
     assert!(rt; written == Ok(()));
     for count in [0, 3, usize::MAX] {
         let moved = move_on_kept::<ByteArithmetic>(&size, &mut coefficients, &mut symbols, count);
         assert!(rt; moved == Err(Fault::Refused(Refusal::OutsideLimits)));
         assert!(rt; coefficients == [one, zero, zero, one, zero, zero]);
-        assert!(rt; symbols == [zero; 3]);
+        assert!(rt; symbols == [nothing; 3]);
     }
     let known = read_kept::<ByteArithmetic>(&size, &coefficients, &symbols, 2).err();
     assert!(rt; known == Some(Fault::Refused(Refusal::OutsideLimits)));
@@ -176,7 +180,8 @@ fn moves(rt: HostRuntime) {
 #[test]
 fn batches(rt: HostRuntime) {
     let size = size(&rt);
-    let (zero, one, seven) = (Byte::new(0), Byte::new(1), Byte::new(7));
+    let (zero, one, coefficient) = (Byte::new(0), Byte::new(1), Byte::new(7));
+    let (nothing, symbol) = (ByteSymbol::new(0), ByteSymbol::new(7));
     let cases = [
         (2, 4, 2, Refusal::OutsideLimits),
         (2, 0, 0, Refusal::OutsideLimits),
@@ -185,12 +190,12 @@ fn batches(rt: HostRuntime) {
     ];
     for (count, c, s, why) in cases {
         let mut coefficients = [zero; 6];
-        let mut symbols = [zero; 3];
+        let mut symbols = [nothing; 3];
         let written = write_zero::<ByteArithmetic>(&size, &mut coefficients, &mut symbols);
         assert!(rt; written == Ok(()));
         let given = Equations::<ByteArithmetic> {
-            coefficients: &[seven; 4][..c],
-            symbols: &[seven; 2][..s],
+            coefficients: &[coefficient; 4][..c],
+            symbols: &[symbol; 2][..s],
         };
         let taken = take_in_kept::<ByteArithmetic>(
             &size,
@@ -201,6 +206,6 @@ fn batches(rt: HostRuntime) {
         );
         assert!(rt; taken == Err(Fault::Refused(why)));
         assert!(rt; coefficients == [one, zero, zero, one, zero, zero]);
-        assert!(rt; symbols == [zero; 3]);
+        assert!(rt; symbols == [nothing; 3]);
     }
 }

@@ -1,4 +1,3 @@
-pub mod Sums
 pub mod Scaled
 pub mod Rows
 pub mod Steps

@@ -8,7 +8,7 @@ use Rattle.systems.specs.System.{Size, System, rows, combined, at_place, Solves}
 use Rattle.systems.specs.Kept.{Empty, Gives, Kept}
 use Rattle.systems.specs.Form.{StandsFor, KeptFormOf}
 use Rattle.systems.specs.Moving.{Continues, Shifted}
-use Rattle.systems.proofs.Sums.{plus_zero, sum_split, sum_same, sum_zero}
+use Rattle.arithmetic.proofs.Sums.{plus_zero, sum_split, sum_same, sum_zero}
 use Rattle.systems.proofs.Scaled.{scale_by_zero}
 use Rattle.systems.proofs.Rows.{same_empty, empty_holds}
 use Rattle.systems.proofs.Solve.{solution, zero_before, solution_solves, solution_stays}

@@ -5,7 +5,7 @@ use Rattle.arithmetic.specs.Laws.{ArithmeticLaws}
 use Rattle.systems.specs.System.{Size, System, at_place}
 use Rattle.systems.specs.Kept.{Kept}
 use Rattle.systems.specs.Reading.{Shared, Differ}
-use Rattle.systems.proofs.Sums.{sum_only}
+use Rattle.arithmetic.proofs.Sums.{sum_only}
 use Rattle.systems.proofs.Scaled.{scale_by_zero, scaled_to_nothing}
 use Rattle.systems.proofs.Solve.{solution, nothing, marked, solution_solves, solution_free, same_gap, same_combined, combined_of_nothing, combined_of_mark, mark_at, no_mark_at}
 

@@ -5,7 +5,7 @@ use Rattle.arithmetic.specs.Operations.{Operations}
 use Rattle.arithmetic.specs.Laws.{ArithmeticLaws}
 use Rattle.arithmetic.specs.Totals.{sum_below}
 use Rattle.systems.specs.System.{combined}
-use Rattle.systems.proofs.Sums.{cancel, plus_zero, plus_negative, is_negative, negative_zero, same_where_no_rest, sum_zero, sum_plus, sum_same}
+use Rattle.arithmetic.proofs.Sums.{cancel, plus_zero, plus_negative, is_negative, negative_zero, same_where_no_rest, sum_zero, sum_plus, sum_same}
 
 module _ {F S : Type 0} (o : Operations F S) (laws : ArithmeticLaws o) where
   pub scale_nothing : (c : F) → o.scale c o.symbols.zero ≡ o.symbols.zero

@@ -5,7 +5,7 @@ use Rattle.arithmetic.specs.Operations.{Operations}
 use Rattle.arithmetic.specs.Laws.{ArithmeticLaws}
 use Rattle.systems.specs.System.{Size, System, combined, at_place, Solves}
 use Rattle.systems.specs.Kept.{Empty, Kept}
-use Rattle.systems.proofs.Sums.{cancel, plus_zero, plus_negative, plus_rest, same_negative, sum_zero, sum_only}
+use Rattle.arithmetic.proofs.Sums.{cancel, plus_zero, plus_negative, plus_rest, same_negative, sum_zero, sum_only}
 use Rattle.systems.proofs.Scaled.{scale_nothing, scale_by_zero, combined_zero, combined_of_sum}
 use Rattle.systems.proofs.Rows.{empty_holds}
 

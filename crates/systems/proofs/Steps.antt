@@ -4,7 +4,7 @@ use Rattle.arithmetic.specs.Operations.{Operations}
 use Rattle.arithmetic.specs.Laws.{ArithmeticLaws}
 use Rattle.systems.specs.System.{Size, System, combined, at_place, Holds}
 use Rattle.systems.specs.Steps.{Added, Scaled, Moved}
-use Rattle.systems.proofs.Sums.{cancel_right}
+use Rattle.arithmetic.proofs.Sums.{cancel_right}
 use Rattle.systems.proofs.Scaled.{scale_cancel, combined_same, combined_added, combined_scaled}
 use Rattle.systems.proofs.Rows.{alike_holds}
 

@@ -1,13 +1,16 @@
+//! Coefficients: single bits.
 ghost use Rattle.word.specs.Bits.{bit_sums, bit_products};
-ghost use Rattle.word.specs.Laws.{bit_sum_laws, bit_product_laws};
+ghost use Rattle.word.specs.Laws.{bit_sum_laws};
 
 use arithmetic::field::Field;
 use arithmetic::sum::Sum;
 
-// A coefficient: zero or one.
+/// A coefficient: zero or one.
 #[derive(Clone, Copy, PartialEq, Eq, Debug)]
 pub enum Bit {
+    /// Zero.
     Off,
+    /// One.
     On,
 }
 
@@ -40,8 +43,6 @@ impl Sum for Bit {
 
 impl Field for Bit {
     ghost product = { bit_products };
-
-    ghost products = { bit_product_laws };
 
     fn one() -> Bit {
         Bit::On

@@ -1,4 +1,4 @@
-// Word arithmetic: coefficients are single bits, symbols are 32-bit words, and a sum is exclusive or.
+//! Word arithmetic: coefficients are single bits, symbols are 32-bit words, and a sum is exclusive or.
 #![tactic(auto)]
 
 pub mod bit;

@@ -1,10 +1,11 @@
+//! Sums of words.
 ghost use Rattle.word.specs.Words.{word_sums};
 ghost use Rattle.word.specs.Laws.{word_sum_laws};
 
 use crate::element::Word;
 use arithmetic::sum::Sum;
 
-// The sum of bytes has the same four lines. Their laws are proved once for both, and a trait from which one `impl` followed would ask for as many.
+// The sums of bytes have the same four lines. Their laws are proved once for all, and a trait from which one `impl` followed would ask for as many.
 impl Sum for Word {
     ghost sum = { word_sums };
 

@@ -1,3 +1,4 @@
+//! Word arithmetic as a whole.
 ghost use Rattle.word.specs.Arithmetic.{word_operations, word_strings};
 ghost use Rattle.word.specs.Laws.{word_laws};
 ghost use Rattle.word.specs.Strings.{word_string_laws};
@@ -7,7 +8,7 @@ use crate::bit::Bit;
 use crate::element::Word;
 use arithmetic::arithmetic::Arithmetic;
 
-// Word arithmetic: a coefficient keeps a symbol or wipes it out.
+/// Word arithmetic: a coefficient keeps a symbol or wipes it out.
 pub struct WordArithmetic;
 
 impl Arithmetic for WordArithmetic {
