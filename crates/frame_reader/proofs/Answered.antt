@@ -4,9 +4,9 @@ use Rattle.std.proofs.lemmas.List.FromFn.{length-map-range_with_len}
 use Rattle.fills.specs.Over.{written_over}
 use Rattle.arithmetic.specs.Laws.{ByteLaws}
 use Rattle.arithmetic.specs.Operations.{Bytes}
-use Rattle.layout.specs.declared.fault.FrameFault.{FrameFault}
 use Rattle.layout.specs.declared.head.Head.{Head}
 use Rattle.layout.specs.Bytes.{data_of}
+use Rattle.layout.specs.FaultNumber.{Fault}
 use Rattle.layout.specs.Faults.{frame_fault, head_of, word_count}
 use Rattle.layout.specs.Frames.{BeginsWith, head_for, words_of}
 use Rattle.layout.specs.Layout.{byte_count, count_of_data, frame, symbol_count}
@@ -22,7 +22,7 @@ use Rattle.frame_reader.proofs.Exactly.{never}
 
 module _ {S : Type 0} (b : Bytes S) (laws : ByteLaws b) (bs : List ℕ) (small : (n : ℕ) → get_or bs n 0 < 256) (old : List S) where
   -- the frame is at fault
-  pub fault_exactly : (fault : FrameFault) → frame_fault bs ≡ Some fault → (r : Result Found ReadError) → AcceptsBlocks b bs old old r
+  pub fault_exactly : (fault : Fault) → frame_fault bs ≡ Some fault → (r : Result Found ReadError) → AcceptsBlocks b bs old old r
   fault_exactly fault found r slot x block begins room = never (frame_fault bs) fault found (no_fault b laws bs small slot x block begins)
 
   -- it is not, and says this

@@ -2,19 +2,20 @@
 use Rattle.std.proofs.Common.{◌≡◌, ℕ, List, Some, None, Ok, Option, Result, ap, ◌∙◌, arith}
 use Rattle.layout.specs.declared.fault.FrameFault.{FrameFault}
 use Rattle.layout.specs.declared.head.Head.{Head}
+use Rattle.layout.specs.FaultNumber.{Fault}
 use Rattle.layout.specs.Faults.{frame_fault, head_of}
 use Rattle.layout.proofs.Right.{right, head_of_frame}
 use Rattle.frame_reader.specs.declared.check.Checked.{Checked}
 use Rattle.frame_reader.specs.Checking.{AcceptsFrames, checked_as}
 
 -- a fault is not none
-pub never : {X : Type 0} (o : Option FrameFault) (f : FrameFault) → o ≡ Some f → o ≡ None → X
+pub never : {X : Type 0} (o : Option Fault) (f : Fault) → o ≡ Some f → o ≡ None → X
 never (Some x) f some none = let z : ◌≡◌ {A = ℕ} 0 1 = cc in absurd (omega arith)
 never None f some none = let z : ◌≡◌ {A = ℕ} 0 1 = cc in absurd (omega arith)
 
 module _ (bs : List ℕ) (r : Result Checked FrameFault) where
   -- where a fault is found, the bytes begin with no frame
-  pub no_frame : (f : FrameFault) → frame_fault bs ≡ Some f → AcceptsFrames bs r
+  pub no_frame : (f : Fault) → frame_fault bs ≡ Some f → AcceptsFrames bs r
   no_frame f fault h ns begins =
       let none : frame_fault bs ≡ None = ap frame_fault begins.1.1 ∙ right h ns begins.0 begins.1.0 in
       never (frame_fault bs) f fault none

@@ -1,10 +1,9 @@
 -- What is waited for at each word of a frame. Assumes nothing.
-use Rattle.std.proofs.Common.{◌≡◌, ℕ, suc, ◌+◌, ◌-◌, ◌*◌, ◌<◌, ◌≤◌, min, Bool, true, false, cond, not, eqb, ltb, List, length, Some, None, sym, refl, ap, ◌∙◌, subst, mul-pos, arith}
+use Rattle.std.proofs.Common.{◌≡◌, ℕ, suc, ◌+◌, ◌-◌, ◌*◌, ◌<◌, ◌≤◌, min, Bool, true, false, not, eqb, ltb, List, length, Some, None, sym, refl, ap, ◌∙◌, subst, mul-pos, arith}
 use Rattle.std.proofs.lemmas.Bool.{cond-true, cond-false, cond_both, lt-ltb, le-ltb, ltb-true, ltb-false, or_parts, not-false}
-use Rattle.layout.specs.declared.fault.FrameFault.{FrameFault}
-use Rattle.layout.specs.declared.fault.FrameFault.TheVariants.{EndsEarly, OtherKind, WrongBits}
 use Rattle.layout.specs.declared.head.Head.{Head}
-use Rattle.layout.specs.Faults.{Place, place_at, kind_at, wrong_at, wrong_head, head_in_words, head_of, word_count, word_fault, frame_fault, first_below, place_fault}
+use Rattle.layout.specs.FaultNumber.{Fault}
+use Rattle.layout.specs.Faults.{Place, place_at, kind_at, wrong_at, wrong_head, head_in_words, head_of, word_count, word_fault, frame_fault, first_below, at_fault, place_fault}
 use Rattle.layout.specs.Faults.Place.{shape_place, data_place, count_place}
 use Rattle.layout.specs.Kinds.{kind_of}
 use Rattle.layout.specs.Layout.{byte_count, count_of_data, is_width, outside_shape}
@@ -50,13 +49,13 @@ count_at n i at =
     ap count_place two ∙ sym (cond-false _ _ _ (le-ltb (count_of_data n) (count_of_data n) (omega arith))) ∙ ap (place_at n) (sym at)
 
 -- a word that is not at fault has its bits right
-passed : (k b : Bool) (x y : FrameFault) → cond k (Some x) (cond b (Some y) None) ≡ None → b ≡ false
-passed true b x y e = let z : ◌≡◌ {A = ℕ} 0 1 = cc in absurd (omega arith)
-passed false true x y e = let z : ◌≡◌ {A = ℕ} 0 1 = cc in absurd (omega arith)
-passed false false x y e = refl
+passed : (l m i : ℕ) (k b : Bool) → at_fault k l i (at_fault b m i None) ≡ None → b ≡ false
+passed l m i true b e = let z : ◌≡◌ {A = ℕ} 0 1 = cc in absurd (omega arith)
+passed l m i false true e = let z : ◌≡◌ {A = ℕ} 0 1 = cc in absurd (omega arith)
+passed l m i false false e = refl
 
 bits_right : (p : Place) (i w : ℕ) → place_fault p i w ≡ None → wrong_at p w ≡ false
-bits_right p i w = passed (not (eqb (kind_of w) (kind_at p))) (wrong_at p w) (OtherKind i) (WrongBits i)
+bits_right p i w = passed 7 8 i (not (eqb (kind_of w) (kind_at p))) (wrong_at p w)
 
 some_bytes : (h : Head) → wrong_head h ≡ false → 0 < byte_count h
 some_bytes h right =
@@ -107,7 +106,7 @@ module _ (bs : List ℕ) where
   -- the word that is read there
   module _ (i : ℕ) (e : Expected) (w : ℕ) (r : Reached bs i e) (there : 4 * i + 4 ≤ length bs) (is : w ≡ word_in bs i) where
     -- it is at fault
-    pub faulty : (fault : FrameFault) → Some fault ≡ place_fault (place_of e i) i w → frame_fault bs ≡ Some fault
+    pub faulty : (fault : Fault) → Some fault ≡ place_fault (place_of e i) i w → frame_fault bs ≡ Some fault
     faulty fault wrong =
         first_at (word_fault bs) i (word_count (head_of bs)) fault r.right
         (fault_there i e r.waits there ∙ ap (place_fault (place_of e i) i) (sym is) ∙ sym wrong) (waits_lt i e r.waits)
@@ -140,6 +139,6 @@ module _ (bs : List ℕ) where
             λ k. record { head = (leads_on (Break last) to).0 k; words = words k }
 
   -- the word that is missing
-  pub missing : (i : ℕ) (e : Expected) → Reached bs i e → length bs < 4 * i + 4 → frame_fault bs ≡ Some (EndsEarly i)
+  pub missing : (i : ℕ) (e : Expected) → Reached bs i e → length bs < 4 * i + 4 → frame_fault bs ≡ Some (record { number = 6; word = i })
   missing i e r short =
-      first_at (word_fault bs) i (word_count (head_of bs)) (EndsEarly i) r.right (cond-true _ _ _ (lt-ltb (length bs) (4 * i + 4) short)) (waits_lt i e r.waits)
+      first_at (word_fault bs) i (word_count (head_of bs)) (record { number = 6; word = i }) r.right (cond-true _ _ _ (lt-ltb (length bs) (4 * i + 4) short)) (waits_lt i e r.waits)

@@ -1,33 +1,31 @@
 -- What reading a frame answers. Assumes nothing.
 use Rattle.std.specs.Prelude.{◌≡◌, ℕ, ◌*◌, ◌≤◌, not, List, map, length, take, Some, None, Ok, Option, Result, ◌==◌, nat_lt}
 use Rattle.fills.specs.Over.{written_over}
-use Rattle.refusal.specs.declared.Refusal.{Refusal}
-use Rattle.refusal.specs.declared.Refusal.TheVariants.{ShortOutput, OtherShape}
 use Rattle.refusal.specs.Order.{refused, accepted}
 use Rattle.arithmetic.specs.Operations.{Bytes}
-use Rattle.layout.specs.declared.fault.FrameFault.{FrameFault}
 use Rattle.layout.specs.declared.head.BlockShape.{BlockShape}
 use Rattle.std.specs.List.{range_with_len}
 use Rattle.layout.specs.Bytes.{byte_at}
+use Rattle.layout.specs.FaultNumber.{Fault}
 use Rattle.layout.specs.Faults.{frame_fault, head_of}
 use Rattle.layout.specs.Layout.{symbol_count}
 use Rattle.frame_reader.specs.declared.error.ReadError.{ReadError}
-use Rattle.frame_reader.specs.declared.error.ReadError.TheVariants.{Frame, Refused}
 use Rattle.frame_reader.specs.declared.read.Found.{Found}
+use Rattle.frame_reader.specs.ErrorNumber.{Failure, of_call, of_frame}
 use Rattle.layout.specs.Frames.{BeginsWith, frame_of, words_of}
 
--- the fault of the frame; if it has none, whatever stands in the way of this call
-abbrev pub fault_first : Option FrameFault → Option Refusal → Option ReadError
-fault_first (Some fault) later = Some (Frame fault)
-fault_first None (Some refusal) = Some (Refused refusal)
+-- the fault of the frame, with its word; if it has none, whatever number this call is refused with
+abbrev pub fault_first : Option Fault → Option ℕ → Option Failure
+fault_first (Some fault) later = Some (of_frame fault)
+fault_first None (Some number) = Some (of_call number)
 fault_first None None = None
 
--- symbols of another width than w, and then an output of n symbols that is too short for the block
-abbrev pub read_refusal : ℕ → List ℕ → ℕ → Option ReadError
+-- the frame's own fault; then symbols of another width than w; and then an output of n symbols that is too short for the block
+abbrev pub read_refusal : ℕ → List ℕ → ℕ → Option Failure
 read_refusal w bs n =
     fault_first (frame_fault bs)
-    (refused (not ((head_of bs).width == w)) OtherShape
-    (refused (nat_lt n (symbol_count (head_of bs).shape)) ShortOutput accepted))
+    (refused (not ((head_of bs).width == w)) 9
+    (refused (nat_lt n (symbol_count (head_of bs).shape)) 5 accepted))
 
 -- symbol i of the block that the bytes carry, and its first n symbols
 abbrev pub symbol_in : {S : Type 0} → Bytes S → List ℕ → ℕ → S

@@ -1,23 +1,25 @@
+//! Why a frame was not read.
 ghost use Rattle.std.specs.Prelude.{◌≡◌};
-ghost use Rattle.frame_reader.specs.ErrorNumber.{error_number};
+ghost use Rattle.frame_reader.specs.ErrorNumber.{failure_of};
 ghost use Rattle.frame_reader.specs.declared.error.ReadError.TheVariants.{Frame, Refused};
 
 use layout::fault::FrameFault;
 use refusal::Refusal;
 
-// Why a frame was not read, and which layer says so.
+/// Why a frame was not read, and which layer says so.
 #[derive(Clone, Copy, PartialEq, Eq, Debug)]
 pub enum ReadError {
-    // The frame itself is at fault, in the word that its fault names.
+    /// 6 to 8: the frame itself is at fault, in the word that its fault names.
     Frame(FrameFault),
-    // It is a frame, but this call cannot take it.
+    /// 9 or 5: it is a frame, but this call cannot take it.
     Refused(Refusal),
 }
 
 impl ReadError {
-    // The refusal's number, whichever layer it comes from. A case that holds another error takes none of its own.
+    // A case that holds another error takes no number of its own.
+    /// The refusal's number, whichever layer it comes from.
     pub fn number(self) -> u8
-        ensures { result ≡ error_number self }
+        ensures { result ≡ (failure_of self).number }
     {
         match self {
             ReadError::Frame(fault) => fault.number(),

@@ -1,4 +1,4 @@
-// Reads a block back from its frame, and says what is wrong with a frame.
+//! Reads a block back from its frame, and says what is wrong with a frame.
 #![tactic(auto)]
 
 pub mod check;

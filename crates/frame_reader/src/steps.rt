@@ -1,5 +1,6 @@
+//! One word of a frame after the other: what is waited for, and what it says.
 ghost use Rattle.std.specs.Prelude.{◌≡◌, ◌-◌, ◌%◌, ◌^◌, ◌≤◌, not, IfOk};
-ghost use Rattle.std.specs.Result.{result_err};
+ghost use Rattle.layout.specs.FaultNumber.{faulted_with};
 ghost use Rattle.layout.specs.Faults.{head_in_words, wrong_head, place_fault};
 ghost use Rattle.frame_reader.specs.Steps.{next_from, place_of};
 
@@ -19,7 +20,8 @@ pub(crate) enum Expected {
 }
 
 // What the second word says, with the slot that the first one said.
-// This and the next are no methods of `Head`: they would be public calls of `layout`, for the reader alone.
+// This and the next are no methods of `Head`: they would be public calls of `layout`, for the
+// reader alone.
 fn head_from(slot: u32, word: u32) -> Head
     ensures { result ≡ head_in_words slot word }
 {
@@ -51,14 +53,15 @@ fn unused(word: u32, carried: u32) -> u32
 }
 
 impl Expected {
-    // What the word is at its place: at fault, or a step on to the next word, or out with what the frame says. All in one match, on what is
-    // waited for and what is met together: a rule of this project (docs/DECISIONS.md).
+    // What the word is at its place: at fault, or a step on to the next word, or out with what the
+    // frame says. All in one match, on what is waited for and what is met together: a rule of this
+    // project (docs/DECISIONS.md).
     pub(crate) fn follow(
         self,
         i: usize,
         word: u32,
     ) -> Result<ControlFlow<Head, Expected>, FrameFault>
-        ensures fault { result_err result ≡ place_fault (place_of self i) i word }
+        ensures fault { faulted_with result ≡ place_fault (place_of self i) i word }
         ensures next { IfOk result (λ s. s ≡ next_from self word) }
     {
         match (self, kind_of(word)) {

@@ -1,4 +1,4 @@
-// Writes, reads and shows frames, whole and damaged, and compares what comes of it.
+//! Writes, reads and shows frames, whole and damaged, and compares what comes of it.
 #![tactic(auto)]
 
 #[cfg(test)]

@@ -1,5 +1,5 @@
-use byte::element::Byte;
-use byte::whole::ByteArithmetic;
+//! Frames that are read, whole and damaged.
+use byte::{ByteArithmetic, ByteSymbol};
 use frame_reader::error::ReadError;
 use frame_reader::read::{Found, read};
 use frame_writer::write::write;
@@ -7,8 +7,7 @@ use layout::fault::FrameFault;
 use layout::head::BlockShape;
 use refusal::Refusal;
 use std::test::Fail;
-use word::element::Word;
-use word::whole::WordArithmetic;
+use word::{Word, WordArithmetic};
 
 // The refusal's number and the word of damaged frames; the output stays as it was.
 #[test]
@@ -173,13 +172,13 @@ fn damaged_frames(rt: HostRuntime) -> Result<(), Fail> {
         (b"\x20\x00\x00\x02\x29\x11\x00\x01\x33", 7, 0),
     ];
     for (bytes, number, word) in cases {
-        let mut out = [Byte::new(0xee); 5];
+        let mut out = [ByteSymbol::new(0xee); 5];
         let Err(ReadError::Frame(fault)) = read::<ByteArithmetic>(bytes, &mut out) else {
             return Err(Fail::new("a damaged frame is not found at fault"));
         };
         assert_eq!(rt; fault.number(), number);
         assert_eq!(rt; fault.word(), word);
-        assert!(rt; out == [Byte::new(0xee); 5]);
+        assert!(rt; out == [ByteSymbol::new(0xee); 5]);
     }
     Ok(())
 }
@@ -187,7 +186,7 @@ fn damaged_frames(rt: HostRuntime) -> Result<(), Fail> {
 // A frame is read, with other bytes behind it; the output behind the block stays as it was.
 #[test]
 fn one_frame(rt: HostRuntime) {
-    let mut out = [Byte::new(0xee); 4];
+    let mut out = [ByteSymbol::new(0xee); 4];
     let answer = read::<ByteArithmetic>(
         b"\x10\x00\x00\x02\x22\x11\x00\x01\x33\x05\x06\x05\x40\x00\x00\x03\xff\xff",
         &mut out,
@@ -205,15 +204,23 @@ fn one_frame(rt: HostRuntime) {
                 words: 4,
             })
     );
-    assert!(rt; out == [Byte::new(5), Byte::new(6), Byte::new(5), Byte::new(0xee)]);
+    assert!(rt;
+        out == [
+            ByteSymbol::new(5),
+            ByteSymbol::new(6),
+            ByteSymbol::new(5),
+            ByteSymbol::new(0xee)
+        ]
+    );
 }
 
-// A frame of words of four bytes is refused where symbols are single bytes, whatever the output holds; but a fault of the frame comes first.
+// A frame of words of four bytes is refused where symbols are single bytes, whatever the output
+// holds; but a fault of the frame comes first.
 #[test]
 fn other_width(rt: HostRuntime) {
     let frame: &[u8] =
         b"\x10\x00\x00\x07\x21\x14\x00\x01\x33\x01\x02\x03\x33\x04\x05\x06\x32\x07\x08\x00\x40\x00\x00\x05";
-    let mut none: [Byte; 0] = [];
+    let mut none: [ByteSymbol; 0] = [];
     let answer = read::<ByteArithmetic>(frame, &mut none);
     assert!(rt; answer == Err(ReadError::Refused(Refusal::OtherShape)));
     assert_eq!(rt; ReadError::Refused(Refusal::OtherShape).number(), 9);
@@ -229,14 +236,14 @@ fn other_width(rt: HostRuntime) {
 // An output of one symbol less than the block is too short, and stays as it was.
 #[test]
 fn short_output(rt: HostRuntime) {
-    let mut out = [Byte::new(0xee); 2];
+    let mut out = [ByteSymbol::new(0xee); 2];
     let answer = read::<ByteArithmetic>(
         b"\x10\x00\x00\x02\x22\x11\x00\x01\x33\x05\x06\x05\x40\x00\x00\x03",
         &mut out,
     );
     assert!(rt; answer == Err(ReadError::Refused(Refusal::ShortOutput)));
     assert_eq!(rt; ReadError::Refused(Refusal::ShortOutput).number(), 5);
-    assert!(rt; out == [Byte::new(0xee); 2]);
+    assert!(rt; out == [ByteSymbol::new(0xee); 2]);
 }
 
 // Words with differing bytes.

@@ -1,8 +1,10 @@
+//! Frames and their words as text.
 use frametext::frame::{frame_text, read_back_text};
 use frametext::word::word_text;
 use std::test::Fail;
 
-// A word of each kind, and what an engineer may hold up besides: a kind that there is not, and a data word that says more bytes than it has.
+// A word of each kind, and what an engineer may hold up besides: a kind that there is not, and a
+// data word that says more bytes than it has.
 #[test]
 fn words(rt: HostRuntime) -> Result<(), Fail> {
     let cases = [

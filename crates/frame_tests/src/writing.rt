@@ -1,5 +1,5 @@
-use byte::element::Byte;
-use byte::whole::ByteArithmetic;
+//! Blocks that are written as frames.
+use byte::{ByteArithmetic, ByteSymbol};
 use frame_writer::write::write;
 use layout::head::BlockShape;
 use refusal::Refusal;
@@ -15,7 +15,7 @@ fn shape(sources: u32, parities: u32, symbols: u32) -> BlockShape {
 // Packet 5, 6 with parity 5, in slot 2. What lies behind the frame stays.
 #[test]
 fn one_frame(rt: HostRuntime) {
-    let block = [Byte::new(5), Byte::new(6), Byte::new(5)];
+    let block = [ByteSymbol::new(5), ByteSymbol::new(6), ByteSymbol::new(5)];
     let mut out = [0xee; 18];
     let words = write::<ByteArithmetic>(2, shape(2, 1, 1), &block, &mut out);
     assert!(rt; words == Ok(4));
@@ -28,11 +28,11 @@ fn one_frame(rt: HostRuntime) {
 #[test]
 fn last_word(rt: HostRuntime) {
     let block = [
-        Byte::new(1),
-        Byte::new(2),
-        Byte::new(3),
-        Byte::new(4),
-        Byte::new(5),
+        ByteSymbol::new(1),
+        ByteSymbol::new(2),
+        ByteSymbol::new(3),
+        ByteSymbol::new(4),
+        ByteSymbol::new(5),
     ];
     let mut out = [0xee; 20];
     let words = write::<ByteArithmetic>(268_435_455, shape(4, 1, 1), &block, &mut out);
@@ -57,7 +57,7 @@ fn refused(rt: HostRuntime) {
         (0, shape(2, 2, 1), Refusal::OtherLength),
         (0, shape(2, 1, 1), Refusal::ShortOutput),
     ];
-    let block = [Byte::new(5), Byte::new(6), Byte::new(5)];
+    let block = [ByteSymbol::new(5), ByteSymbol::new(6), ByteSymbol::new(5)];
     for (slot, shape, why) in cases {
         let mut out = [0xee; 15];
         let words = write::<ByteArithmetic>(slot, shape, &block, &mut out);

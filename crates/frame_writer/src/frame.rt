@@ -1,4 +1,6 @@
-ghost use Rattle.std.specs.Prelude.{◌≡◌, ◌+◌, ◌*◌, ◌^◌, ◌<◌, ◌≤◌, ◌++◌, length, take, drop, slice_index};
+//! A block that is within its limits, word by word.
+ghost use Rattle.std.specs.Prelude.{◌≡◌, ◌+◌, ◌*◌, ◌^◌, ◌<◌, ◌≤◌, ◌++◌};
+ghost use Rattle.std.specs.Prelude.{length, take, drop, slice_index};
 ghost use Rattle.std.specs.List.{flat_map};
 ghost use Rattle.fills.specs.Over.{written_over};
 ghost use Rattle.layout.specs.Kinds.{kind_number};
@@ -11,11 +13,15 @@ use arithmetic::arithmetic::Arithmetic;
 use layout::head::BlockShape;
 use layout::words::Kind;
 
-// A block within its limits, to be written as a frame. A symbol is written anew for each of its bytes, so that no copy of the block is kept.
+// A symbol is written anew for each of its bytes, so that no copy of the block is kept.
+/// A block within its limits, to be written as a frame.
 #[derive(Drop)]
 pub struct Frame<'a, A: Arithmetic> {
+    /// The slot that the block belongs to.
     pub slot: u32,
+    /// K, P and L.
     pub shape: BlockShape,
+    /// The symbols: those of the packet, and then those of the parities.
     pub block: &'a [A::Sym],
     pub ghost within: { Within slot shape block.now },
 }
@@ -37,6 +43,7 @@ fn put_word(out: &mut [u8], i: usize, word: u32)
 }
 
 impl<'a, A: Arithmetic> Frame<'a, A> {
+    /// The frame of this block, which must be within its limits: slot, K, P, L, and (K+P)·L symbols.
     pub fn new(slot: u32, shape: BlockShape, block: &'a [A::Sym]) -> Self
         requires { Within slot shape block.now }
         ensures slot { result.slot ≡ slot }
@@ -48,7 +55,7 @@ impl<'a, A: Arithmetic> Frame<'a, A> {
 
     // The bytes of the block.
     fn byte_count(&self) -> usize
-        ensures value { result ≡ length (flat_map A.Arithmetic.bytes.write self.now.block.now) }
+        ensures value { result ≡ length (flat_map A.bytes.write self.now.block.now) }
         ensures bound { result ≤ 1536 }
     {
         self.block.len() * A::symbol_width()
@@ -56,7 +63,7 @@ impl<'a, A: Arithmetic> Frame<'a, A> {
 
     // Byte n of them; zero behind the last.
     fn byte(&self, n: usize) -> u8
-        ensures { result ≡ slice_index (flat_map A.Arithmetic.bytes.write self.now.block.now) n }
+        ensures { result ≡ slice_index (flat_map A.bytes.write self.now.block.now) n }
     {
         let width = A::symbol_width();
         match self.block.get(n / width) {
@@ -67,15 +74,16 @@ impl<'a, A: Arithmetic> Frame<'a, A> {
 
     // Data words for them, three bytes to a word.
     fn data_count(&self) -> usize
-        ensures value { result ≡ count_of_data (length (flat_map A.Arithmetic.bytes.write self.now.block.now)) }
+        ensures value { let bytes = flat_map A.bytes.write self.now.block.now in
+            result ≡ count_of_data (length bytes) }
         ensures bound { result ≤ 512 }
     {
         self.byte_count().div_ceil(3)
     }
 
-    // The words of the frame: the slot's, the shape's, those of the data, and the count.
+    /// The number of the frame's words: the slot's, the shape's, those of the data, and the count.
     pub fn word_count(&self) -> usize
-        ensures value { result ≡ words_of A.Arithmetic.bytes self.now.slot self.now.shape }
+        ensures value { result ≡ words_of A.bytes self.now.slot self.now.shape }
         ensures bound { result ≤ 515 }
     {
         3 + self.data_count()
@@ -83,7 +91,7 @@ impl<'a, A: Arithmetic> Frame<'a, A> {
 
     // Kind 2. The limits keep each field below the one before it.
     fn shape_word(&self) -> u32
-        ensures { result ≡ word_of_shape (head_for A.Arithmetic.bytes self.now.slot self.now.shape) }
+        ensures { result ≡ word_of_shape (head_for A.bytes self.now.slot self.now.shape) }
     {
         let shape = self.shape;
         let width = A::symbol_width() as u32;
@@ -93,10 +101,11 @@ impl<'a, A: Arithmetic> Frame<'a, A> {
         )
     }
 
-    // Kind 3: how many bytes data word j carries, and these, with zeros where the last word carries fewer.
+    // Kind 3: how many bytes data word j carries, and these, with zeros where the last word carries
+    // fewer.
     fn data_word(&self, j: usize) -> u32
-        requires { 3 * j < length (flat_map A.Arithmetic.bytes.write self.now.block.now) }
-        ensures { result ≡ word_of_data (flat_map A.Arithmetic.bytes.write self.now.block.now) j }
+        requires { 3 * j < length (flat_map A.bytes.write self.now.block.now) }
+        ensures { result ≡ word_of_data (flat_map A.bytes.write self.now.block.now) j }
     {
         let carried = (self.byte_count() - 3 * j).min(3) as u8;
         word_of(
@@ -112,8 +121,9 @@ impl<'a, A: Arithmetic> Frame<'a, A> {
 
     // Word i of the frame.
     fn word(&self, i: usize) -> u32
-        requires { i < words_of A.Arithmetic.bytes self.now.slot self.now.shape }
-        ensures { result ≡ slice_index (word_list A.Arithmetic.bytes self.now.slot self.now.shape self.now.block.now) i }
+        requires { i < words_of A.bytes self.now.slot self.now.shape }
+        ensures { let words = word_list A.bytes self.now.slot self.now.shape self.now.block.now in
+            result ≡ slice_index words i }
     {
         match i {
             0 => word_of(Kind::Slot, self.slot),
@@ -123,12 +133,15 @@ impl<'a, A: Arithmetic> Frame<'a, A> {
         }
     }
 
-    // Writes the words to the output's first bytes.
+    /// Writes the frame to the output's first bytes, of which there must be as many. What lies
+    /// behind them stays.
     pub fn write(&self, out: &mut [u8])
-        requires { 4 * words_of A.Arithmetic.bytes self.now.slot self.now.shape ≤ length out.old }
-        ensures { out.new ≡ written_over (frame_of A.Arithmetic.bytes self.now.slot self.now.shape self.now.block.now) out.old }
+        requires { 4 * words_of A.bytes self.now.slot self.now.shape ≤ length out.old }
+        ensures { let frame = frame_of A.bytes self.now.slot self.now.shape self.now.block.now in
+            out.new ≡ written_over frame out.old }
     {
-        // Counted: tried with `chunks_exact_mut`, and the invariant of the loop cannot then name the bytes that are written.
+        // Counted: tried with `chunks_exact_mut`, and the invariant of the loop cannot then name
+        // the bytes that are written.
         for i in 0..self.word_count() {
             put_word(out, i, self.word(i));
         }

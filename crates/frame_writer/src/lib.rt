@@ -1,4 +1,4 @@
-// Writes a block as a frame.
+//! Writes a block as a frame.
 #![tactic(auto)]
 
 pub mod frame;

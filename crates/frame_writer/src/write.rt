@@ -1,5 +1,6 @@
+//! The call that writes a block as a frame.
 ghost use Rattle.std.specs.Prelude.{◌≡◌, length, IfOk, OnErr, OnOk};
-ghost use Rattle.std.specs.Result.{result_err};
+ghost use Rattle.refusal.specs.Order.{refused_with};
 ghost use Rattle.fills.specs.Over.{written_over};
 ghost use Rattle.layout.specs.Frames.{BeginsWith, frame_of, words_of};
 ghost use Rattle.frame_writer.specs.Writing.{write_refusal, NoOther};
@@ -10,18 +11,24 @@ use codes::link::LAST_SLOT;
 use layout::head::BlockShape;
 use refusal::Refusal;
 
-// Writes the block's frame to the output's first bytes, and answers its words.
+/// Writes the block's frame to the output's first bytes, and answers how many words it has. What
+/// lies behind the frame stays.
+///
+/// Refuses a slot above the last one, or K, P or L outside its limits (1); a block that has not
+/// (K+P)·L symbols (4); an output of fewer bytes than the frame (5).
 pub fn write<A: Arithmetic>(
     slot: u32,
     shape: BlockShape,
     block: &[A::Sym],
     out: &mut [u8],
 ) -> Result<usize, Refusal>
-    ensures refusal { result_err result ≡ write_refusal A.Arithmetic.bytes slot shape (length block.now) (length out.old) }
-    ensures words { IfOk result (λ n. n ≡ words_of A.Arithmetic.bytes slot shape) }
-    ensures written { OnOk result (out.new ≡ written_over (frame_of A.Arithmetic.bytes slot shape block.now) out.old) }
-    ensures begins { OnOk result (BeginsWith A.Arithmetic.bytes out.new slot shape block.now) }
-    ensures only { OnOk result (NoOther A.Arithmetic.bytes slot shape block.now) }
+    ensures refusal { refused_with result
+        ≡ write_refusal A.bytes slot shape (length block.now) (length out.old) }
+    ensures words { IfOk result (λ n. n ≡ words_of A.bytes slot shape) }
+    ensures written { let frame = frame_of A.bytes slot shape block.now in
+        OnOk result (out.new ≡ written_over frame out.old) }
+    ensures begins { OnOk result (BeginsWith A.bytes out.new slot shape block.now) }
+    ensures only { OnOk result (NoOther A.bytes slot shape block.now) }
     ensures unchanged { OnErr result (out.new ≡ out.old) }
 {
     if slot > LAST_SLOT || shape.is_outside() {

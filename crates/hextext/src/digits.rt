@@ -1,3 +1,4 @@
+//! Digits, and the bytes that they spell.
 ghost use Rattle.std.specs.Prelude.{◌≡◌, ◌<◌, true, [], ◌∷◌};
 ghost use Rattle.hextext.specs.Digits.{byte_text, digit, is_hex_digit, all_hex_digits};
 

@@ -1,15 +1,16 @@
+//! Why a packet was not read.
 ghost use Rattle.std.specs.Prelude.{◌≡◌};
 ghost use Rattle.hextext.specs.declared.error.ReadError.TheVariants.{Refused, NoMemory};
 
 use refusal::Refusal;
 use std::alloc::{AllocError, AllocFailed};
 
-// Why a packet was not read.
+/// Why a packet was not read: the text is at fault, or memory ran out.
 #[derive(Clone, Copy, PartialEq, Eq, Debug)]
 pub enum ReadError {
-    // The text is at fault, and for this reason.
+    /// The text is at fault, and for this reason.
     Refused(Refusal),
-    // The text is a packet, but there is no memory for its symbols.
+    /// The text is a packet, but there is no memory for its symbols.
     NoMemory,
 }
 

@@ -1,4 +1,4 @@
-// Packets as text: lower-case hexadecimal, two digits to a byte.
+//! Packets as text: lower-case hexadecimal, two digits to a byte.
 #![tactic(auto)]
 
 mod digits;

@@ -1,5 +1,6 @@
+//! Packets read from text.
 ghost use Rattle.std.specs.Prelude.{◌≡◌, ◌*◌, true, length};
-ghost use Rattle.std.specs.Result.{result_err};
+ghost use Rattle.refusal.specs.Order.{refused_with};
 ghost use Rattle.hextext.specs.Digits.{all_digits};
 ghost use Rattle.hextext.specs.Packet.{symbol_text, packet_refusal};
 ghost use Rattle.hextext.specs.Reading.{Reads};
@@ -10,9 +11,9 @@ use arithmetic::arithmetic::Arithmetic;
 use refusal::Refusal;
 use std::alloc::Global;
 
-// Refuses a text that is no row of bytes, or has no whole symbols.
+// Refuses a text that is no row of bytes (10), or has no whole symbols (4).
 fn check<A: Arithmetic>(text: &[u8]) -> Result<(), Refusal>
-    ensures { result_err result ≡ packet_refusal A.Arithmetic.bytes text.now }
+    ensures { refused_with result ≡ packet_refusal A.bytes text.now }
 {
     if !is_hex(text) {
         return Err(Refusal::BrokenLine);
@@ -26,8 +27,8 @@ fn check<A: Arithmetic>(text: &[u8]) -> Result<(), Refusal>
 // The symbol whose text this is.
 fn read_symbol<A: Arithmetic>(text: &[u8]) -> A::Sym
     requires digits { all_digits text.now ≡ true }
-    requires whole { length text.now ≡ 2 * A.Arithmetic.bytes.width }
-    ensures { symbol_text A.Arithmetic.bytes result ≡ text.now }
+    requires whole { length text.now ≡ 2 * A.bytes.width }
+    ensures { symbol_text A.bytes result ≡ text.now }
 {
     let mut four = [0; 4];
     let (pairs, _) = text.as_chunks::<2>();
@@ -38,9 +39,10 @@ fn read_symbol<A: Arithmetic>(text: &[u8]) -> A::Sym
     A::from_bytes(four)
 }
 
-// The symbols of a packet whose text this is.
+/// The symbols of a packet whose text this is. Refuses a text that is not an even number of the digits 0 to 9 and a to f (10),
+/// and one of other than whole symbols (4); where the text is a packet and memory runs out, that is the error.
 pub fn read_packet<A: Arithmetic>(heap: Global, text: &[u8]) -> Result<Vec<A::Sym>, ReadError>
-    ensures { Reads A.Arithmetic.bytes text.now result }
+    ensures { Reads A.bytes text.now result }
 {
     check::<A>(text)?;
     let digits = 2 * A::symbol_width();

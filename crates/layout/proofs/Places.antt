@@ -1,14 +1,13 @@
 -- The words that may stand at each place of a frame. Assumes nothing.
-use Rattle.std.proofs.Common.{◌≡◌, ℕ, zero, suc, ◌+◌, ◌-◌, ◌*◌, ◌/◌, ◌%◌, ◌^◌, ◌<◌, ◌≤◌, Bool, true, false, cond, not, eqb, ltb, List, [], ◌∷◌, length, get_or, Some, None, refl, sym, ap, ◌∙◌, arith}
+use Rattle.std.proofs.Common.{◌≡◌, ℕ, zero, suc, ◌+◌, ◌-◌, ◌*◌, ◌/◌, ◌%◌, ◌^◌, ◌<◌, ◌≤◌, Bool, true, false, not, eqb, ltb, List, [], ◌∷◌, length, get_or, None, refl, sym, ap, ◌∙◌, arith}
 use Rattle.std.specs.List.{AllByRecursion}
 use Rattle.std.proofs.lemmas.List.{get_or_past}
 use Rattle.std.proofs.lemmas.Bool.{eq-eqb, eqb-true, le-ltb, ltb-false, not-false, not_from_true, or_from, or_parts}
 use Rattle.std.proofs.lemmas.Bool.Decides.{nat_tests}
 use Rattle.std.proofs.lemmas.Option.{none-some}
 use Rattle.codes.specs.Shape.{last_slot}
-use Rattle.layout.specs.declared.fault.FrameFault.TheVariants.{EndsEarly, OtherKind, WrongBits}
 use Rattle.layout.specs.declared.head.Head.{Head}
-use Rattle.layout.specs.Faults.{Place, head_in_words, head_of, place_at, kind_at, wrong_at, wrong_head, word_fault}
+use Rattle.layout.specs.Faults.{Place, head_in_words, head_of, place_at, kind_at, wrong_at, wrong_head, at_fault, word_fault}
 use Rattle.layout.specs.Kinds.{kind_of}
 use Rattle.layout.specs.Layout.{Lawful, byte_count, carried, is_width, outside_shape, word_of_slot, word_of_shape, word_of_data, word_of_count}
 use Rattle.layout.specs.Words.{bits, word_in, word_bytes}
@@ -19,18 +18,18 @@ use Rattle.layout.proofs.WordLaws.{word_of_bytes}
 abbrev pub Faultless : Place → ℕ → Type 0
 Faultless p w = (kind_of w ≡ kind_at p) × (wrong_at p w ≡ false)
 
--- three tests in a row find nothing just where each is false
-module _ {X : Type 0} where
-  tests_from : (a b c : Bool) (x y z : X) → a ≡ false → b ≡ false → c ≡ false
-      → cond a (Some x) (cond b (Some y) (cond c (Some z) None)) ≡ None
-  tests_from a b c x y z first second third = rw (first, second, third) refl
+-- three tests of word i in a row find nothing just where each is false
+module _ (l m n i : ℕ) where
+  tests_from : (a b c : Bool) → a ≡ false → b ≡ false → c ≡ false
+      → at_fault a l i (at_fault b m i (at_fault c n i None)) ≡ None
+  tests_from a b c first second third = rw (first, second, third) refl
 
-  tests_back : (a b c : Bool) (x y z : X) → cond a (Some x) (cond b (Some y) (cond c (Some z) None)) ≡ None
+  tests_back : (a b c : Bool) → at_fault a l i (at_fault b m i (at_fault c n i None)) ≡ None
       → (a ≡ false) × ((b ≡ false) × (c ≡ false))
-  tests_back true b c x y z e = absurd (none-some x (sym e))
-  tests_back false true c x y z e = absurd (none-some y (sym e))
-  tests_back false false true x y z e = absurd (none-some z (sym e))
-  tests_back false false false x y z e = (refl, (refl, refl))
+  tests_back true b c e = absurd (none-some _ (sym e))
+  tests_back false true c e = absurd (none-some _ (sym e))
+  tests_back false false true e = absurd (none-some _ (sym e))
+  tests_back false false false e = (refl, (refl, refl))
 
 -- word i has no fault just where it is there, of the kind of its place, and has no wrong bits
 module _ (bs : List ℕ) (i : ℕ) where
@@ -38,14 +37,14 @@ module _ (bs : List ℕ) (i : ℕ) where
   no_fault within right =
       let w = word_in bs i in
       let place = place_at (byte_count (head_of bs)) i in
-      tests_from (ltb (length bs) (4 * i + 4)) (not (eqb (kind_of w) (kind_at place))) (wrong_at place w) (EndsEarly i) (OtherKind i) (WrongBits i)
+      tests_from 6 7 8 i (ltb (length bs) (4 * i + 4)) (not (eqb (kind_of w) (kind_at place))) (wrong_at place w)
       (le-ltb _ _ within) (not_from_true _ (eq-eqb _ _ right.0)) right.1
 
   pub no_fault_back : word_fault bs i ≡ None → (4 * i + 4 ≤ length bs) × Faultless (place_at (byte_count (head_of bs)) i) (word_in bs i)
   no_fault_back none =
       let w = word_in bs i in
       let place = place_at (byte_count (head_of bs)) i in
-      let parts = tests_back (ltb (length bs) (4 * i + 4)) (not (eqb (kind_of w) (kind_at place))) (wrong_at place w) (EndsEarly i) (OtherKind i) (WrongBits i) none in
+      let parts = tests_back 6 7 8 i (ltb (length bs) (4 * i + 4)) (not (eqb (kind_of w) (kind_at place))) (wrong_at place w) none in
       (ltb-false _ _ parts.0, (eqb-true _ _ (not-false _ parts.1.0), parts.1.1))
 
 -- the word of a slot has no fault, and says the slot

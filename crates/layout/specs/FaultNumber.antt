@@ -1,14 +1,20 @@
--- The number of each fault, and the word that it names, case by case.
-use Rattle.std.specs.Prelude.{ℕ}
+-- What is wrong with a frame, by the number that it is refused with and the word at fault.
+use Rattle.std.specs.Prelude.{ℕ, Some, None, Ok, Err, Option, Result}
 use Rattle.layout.specs.declared.fault.FrameFault.{FrameFault}
 use Rattle.layout.specs.declared.fault.FrameFault.TheVariants.{EndsEarly, OtherKind, WrongBits}
 
-abbrev pub fault_number : FrameFault → ℕ
-fault_number (EndsEarly i) = 6
-fault_number (OtherKind i) = 7
-fault_number (WrongBits i) = 8
+-- a fault of a frame: the refusal's number, which is 6, 7 or 8, and the word at fault, counted from 0
+pub record Fault : Type 0 where
+  pub number : ℕ
+  pub word : ℕ
 
-abbrev pub fault_word : FrameFault → ℕ
-fault_word (EndsEarly i) = i
-fault_word (OtherKind i) = i
-fault_word (WrongBits i) = i
+-- the number and the word of each case
+abbrev pub fault_of : FrameFault → Fault
+fault_of (EndsEarly i) = record { number = 6; word = i }
+fault_of (OtherKind i) = record { number = 7; word = i }
+fault_of (WrongBits i) = record { number = 8; word = i }
+
+-- the fault that a call found, if it found one
+abbrev pub faulted_with : {X : Type 0} → Result X FrameFault → Option Fault
+faulted_with (Ok _) = None
+faulted_with (Err fault) = Some (fault_of fault)

@@ -1,8 +1,7 @@
 -- What is wrong with a frame first. Assumes nothing.
-use Rattle.std.specs.Prelude.{ℕ, zero, suc, ◌+◌, ◌-◌, ◌*◌, ◌%◌, ◌^◌, Bool, false, cond, not, ◌||◌, List, length, Some, None, Option, ◌==◌, nat_lt}
-use Rattle.layout.specs.declared.fault.FrameFault.{FrameFault}
-use Rattle.layout.specs.declared.fault.FrameFault.TheVariants.{EndsEarly, OtherKind, WrongBits}
+use Rattle.std.specs.Prelude.{ℕ, zero, suc, ◌+◌, ◌-◌, ◌*◌, ◌%◌, ◌^◌, Bool, false, not, if◌then◌else◌, ◌||◌, List, length, Some, None, Option, ◌==◌, nat_lt}
 use Rattle.layout.specs.declared.head.Head.{Head}
+use Rattle.layout.specs.FaultNumber.{Fault}
 use Rattle.layout.specs.Kinds.{kind_of}
 use Rattle.layout.specs.Layout.{byte_count, carried, count_of_data, is_width, outside_shape}
 use Rattle.layout.specs.Words.{bits, word_in}
@@ -35,7 +34,7 @@ pub data Place : Type 0 where
 abbrev pub place_at : ℕ → ℕ → Place
 place_at n zero = Place.slot_place
 place_at n (suc zero) = Place.shape_place
-place_at n (suc (suc j)) = cond (nat_lt j (count_of_data n)) (Place.data_place (carried n j)) (Place.count_place (2 + j))
+place_at n (suc (suc j)) = if nat_lt j (count_of_data n) then Place.data_place (carried n j) else Place.count_place (2 + j)
 
 abbrev pub kind_at : Place → ℕ
 kind_at Place.slot_place = 1
@@ -51,13 +50,21 @@ wrong_at Place.shape_place w = wrong_head (head_in_words 0 w)
 wrong_at (Place.data_place c) w = not (bits 27 24 w == c) || not (w % 256 ^ (3 - c) == 0)
 wrong_at (Place.count_place n) w = not (bits 27 0 w == n)
 
--- a word that is there is of another kind than its place has, or otherwise wrong
-abbrev pub place_fault : Place → ℕ → ℕ → Option FrameFault
-place_fault place i w = cond (not (kind_of w == kind_at place)) (Some (OtherKind i)) (cond (wrong_at place w) (Some (WrongBits i)) None)
+-- at fault in word i, with this number, where the test says so; else whatever the later checks say
+abbrev pub at_fault : Bool → ℕ → ℕ → Option Fault → Option Fault
+at_fault test number i later = if test then Some (record { number = number; word = i }) else later
+
+-- a word that is there is of another kind than its place has, or has other bits that are wrong
+abbrev pub place_fault : Place → ℕ → ℕ → Option Fault
+place_fault place i w =
+    at_fault (not (kind_of w == kind_at place)) 7 i
+    (at_fault (wrong_at place w) 8 i None)
 
 -- word i is missing, or wrong at its place
-abbrev pub word_fault : List ℕ → ℕ → Option FrameFault
-word_fault bs i = cond (nat_lt (length bs) (4 * i + 4)) (Some (EndsEarly i)) (place_fault (place_at (byte_count (head_of bs)) i) i (word_in bs i))
+abbrev pub word_fault : List ℕ → ℕ → Option Fault
+word_fault bs i =
+    at_fault (nat_lt (length bs) (4 * i + 4)) 6 i
+    (place_fault (place_at (byte_count (head_of bs)) i) i (word_in bs i))
 
 -- the earlier, if there is one
 abbrev pub or_else : {X : Type 0} → Option X → Option X → Option X
@@ -74,5 +81,5 @@ abbrev pub word_count : Head → ℕ
 word_count h = 3 + count_of_data (byte_count h)
 
 -- the fault of the first word that has one; what lies behind the frame is not looked at
-abbrev pub frame_fault : List ℕ → Option FrameFault
+abbrev pub frame_fault : List ℕ → Option Fault
 frame_fault bs = first_below (word_fault bs) (word_count (head_of bs))

@@ -1,4 +1,4 @@
-// The layout of a frame: its words, what they say, and what can be wrong with them.
+//! The layout of a frame: its words, what they say, and what can be wrong with them.
 #![tactic(auto)]
 
 pub mod fault;

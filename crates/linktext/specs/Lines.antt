@@ -1,7 +1,7 @@
 -- What is printed, without the ends of lines. Lists hold the codes of characters. Assumes nothing.
 use Rattle.std.specs.Prelude.{ℕ, cond, List, ◌++◌, codes, decimal, ◌==◌}
 use Rattle.refusal.specs.declared.Refusal.{Refusal}
-use Rattle.refusal.specs.declared.Refusal.TheVariants.{OutsideLimits, UnfitShape, ShortMemory, OtherLength, ShortOutput, OtherShape, BrokenLine, SlotBelow, SlotAbove}
+use Rattle.refusal.specs.declared.Refusal.TheVariants.{OutsideLimits, UnfitShape, ShortMemory, OtherLength, ShortOutput, OtherShape, BrokenLine, SlotBelow, SlotAbove, PacketBelow, PacketAbove, UnkeptMemory, Contradiction}
 use Rattle.refusal.specs.Number.{number_of}
 use Rattle.arithmetic.specs.Operations.{Bytes}
 use Rattle.codes.specs.Shape.{Shape}
@@ -39,6 +39,10 @@ advice BrokenLine n =
     (codes "a packet is an even number of the digits 0 to 9 and a to f, and no line is longer than 2050 characters")
 advice SlotBelow n = codes "this slot was sent before: send the next one"
 advice SlotAbove n = codes "a slot was left out: send the next one first"
+advice PacketBelow n = codes "the packet is older than all that are still kept: ask for it before the window has moved past it"
+advice PacketAbove n = codes "the packet's slot is not settled yet: hand over its frame or report it lost first"
+advice UnkeptMemory n = codes "the memory is not in the form that the receiver keeps: hand in the memory that the last call left"
+advice Contradiction n = codes "the block contradicts what came before it: compare the plan cards of truck and studio"
 
 abbrev pub text_of_refusal : Refusal → ℕ → List ℕ
 text_of_refusal w n = codes "refused " ++ (decimal (number_of w) ++ (codes " line " ++ (decimal n ++ (codes ": " ++ advice w n))))

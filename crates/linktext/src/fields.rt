@@ -1,7 +1,8 @@
+//! The fields of a line, and decimal numbers.
 ghost use Rattle.std.specs.Prelude.{◌≡◌, if◌then◌else◌, Some, None};
 ghost use Rattle.linktext.specs.Fields.{before, behind, all_decimal, read_on, number_in};
 
-// A text, cut at its first mark: what stands before it and what behind it.
+/// A text, cut at its first mark: what stands before it and what behind it. Without a mark, all of it and nothing.
 pub fn cut(line: &[u8], mark: u8) -> (&[u8], &[u8])
     ensures first { result.0.now ≡ before mark line.now }
     ensures rest { result.1.now ≡ behind mark line.now }

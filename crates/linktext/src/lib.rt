@@ -1,4 +1,4 @@
-// The text of a link: what a person hands in, and what is printed.
+//! The text of a link: what a person hands in, and what is printed.
 #![tactic(auto)]
 
 pub mod fields;

@@ -1,3 +1,4 @@
+//! The lines that are printed.
 ghost use Rattle.std.specs.Prelude.{◌≡◌, IfOk, string_bytes};
 ghost use Rattle.plan.specs.Numbers.{short_deadline_of, deadline_of};
 ghost use Rattle.plan.specs.Codes.{plan_shape};
@@ -11,9 +12,12 @@ use plan::Plan;
 use refusal::Refusal;
 use std::alloc::{AllocError, Global};
 
-// The plan as it was handed in. A function and no `Display`, here and below: those need an arithmetic, a field or a line's number, which no `Display` takes.
+// A function and no `Display`, here and below: those need an arithmetic, a field or a line's number, which no `Display` takes.
+/// The plan as it was handed in. An error, here and below, says that memory ran out.
 pub fn plan_text(heap: Global, plan: &Plan) -> Result<String, AllocError>
-    ensures { IfOk result (λ s. string_bytes s ≡ text_of_plan plan.now.burst plan.now.width plan.now.stretch plan.now.symbols plan.now.arithmetic) }
+    ensures { let p = plan.now in
+        let shown = text_of_plan p.burst p.width p.stretch p.symbols p.arithmetic in
+        IfOk result (λ s. string_bytes s ≡ shown) }
 {
     let burst = plan.burst();
     let width = plan.width();
@@ -23,9 +27,13 @@ pub fn plan_text(heap: Global, plan: &Plan) -> Result<String, AllocError>
     format!(in heap; "plan B={burst} m={width} alpha={stretch} L={symbols} {name} arithmetic")
 }
 
-// What follows from a plan: its deadlines, and the shape of its code over these coefficients.
+/// What follows from a plan: its deadlines, and the shape of its code over these coefficients.
 pub fn shape_text<F: Field>(heap: Global, plan: &Plan) -> Result<String, AllocError>
-    ensures { IfOk result (λ s. string_bytes s ≡ text_of_shape (short_deadline_of plan.now.burst plan.now.width) (deadline_of plan.now.burst plan.now.width plan.now.stretch) (plan_shape plan.now.burst plan.now.width plan.now.stretch)) }
+    ensures { let p = plan.now in
+        let short = short_deadline_of p.burst p.width in
+        let long = deadline_of p.burst p.width p.stretch in
+        let shape = plan_shape p.burst p.width p.stretch in
+        IfOk result (λ s. string_bytes s ≡ text_of_shape short long shape) }
 {
     let short = plan.short_deadline();
     let long = plan.deadline();
@@ -66,10 +74,18 @@ fn advice_on(refusal: Refusal, line: u64) -> &'static str
         }
         Refusal::SlotBelow => "this slot was sent before: send the next one",
         Refusal::SlotAbove => "a slot was left out: send the next one first",
+        Refusal::PacketBelow =>
+            "the packet is older than all that are still kept: ask for it before the window has moved past it",
+        Refusal::PacketAbove =>
+            "the packet's slot is not settled yet: hand over its frame or report it lost first",
+        Refusal::UnkeptMemory =>
+            "the memory is not in the form that the receiver keeps: hand in the memory that the last call left",
+        Refusal::Contradiction =>
+            "the block contradicts what came before it: compare the plan cards of truck and studio",
     }
 }
 
-// The line that ends a run: which refusal, of which line, and what to do.
+/// The line that ends a run: which refusal, of which line, and what to do.
 pub fn refusal_text(heap: Global, refusal: Refusal, line: u64) -> Result<String, AllocError>
     ensures { IfOk result (λ s. string_bytes s ≡ text_of_refusal refusal line) }
 {
@@ -78,14 +94,15 @@ pub fn refusal_text(heap: Global, refusal: Refusal, line: u64) -> Result<String,
     format!(in heap; "refused {number} line {line}: {words}")
 }
 
-// A slot with its packet and its parities.
+/// A slot with its packet and its parities.
 pub fn slot_text<A: Arithmetic>(
     heap: Global,
     slot: u32,
     packet: &[A::Sym],
     parities: &[A::Sym],
 ) -> Result<String, AllocError>
-    ensures { IfOk result (λ s. string_bytes s ≡ text_of_slot A.Arithmetic.bytes slot packet.now parities.now) }
+    ensures { let shown = text_of_slot A.bytes slot packet.now parities.now in
+        IfOk result (λ s. string_bytes s ≡ shown) }
 {
     let mut text = format!(in heap; "slot {slot} packet ")?;
     write_packet::<A>(&mut text, packet)?;

@@ -1,7 +1,6 @@
+//! The first line of a link's text: its plan.
 ghost use Rattle.std.specs.Prelude.{◌≡◌, false, not, IfOk, MatchOption};
-ghost use Rattle.std.specs.Result.{result_err};
-ghost use Rattle.refusal.specs.Order.{refused, accepted};
-ghost use Rattle.refusal.specs.declared.Refusal.TheVariants.{BrokenLine};
+ghost use Rattle.refusal.specs.Order.{refused, accepted, refused_with};
 ghost use Rattle.linktext.specs.Fields.{front, back, is_number, read_on};
 ghost use Rattle.linktext.specs.PlanLine.{plan_line_refusal, letter_text, is_letter, Says};
 
@@ -9,16 +8,17 @@ use crate::fields::{cut, number};
 use plan::{ArithmeticName, Plan};
 use refusal::Refusal;
 
-// No line is longer than this.
+/// No line is longer than this many bytes.
 pub const LONGEST_LINE: usize = 2050;
 
 // The arithmetic that a letter names.
 fn named(letter: &[u8]) -> Option<ArithmeticName>
     ensures { MatchOption result (is_letter letter.now ≡ false) (λ a. letter_text a ≡ letter.now) }
 {
-    match letter {
-        b"W" => Some(ArithmeticName::Word),
-        b"F" => Some(ArithmeticName::Byte),
+    let [letter] = letter else { return None };
+    match char::from(*letter) {
+        'W' => Some(ArithmeticName::Word),
+        'F' => Some(ArithmeticName::Byte),
         _ => None,
     }
 }
@@ -27,17 +27,19 @@ fn named(letter: &[u8]) -> Option<ArithmeticName>
 fn field(line: &[u8]) -> Result<(u32, &[u8]), Refusal>
     ensures value { IfOk result (λ f. f.0 ≡ read_on 0 (front line.now)) }
     ensures rest { IfOk result (λ f. f.1.now ≡ back line.now) }
-    ensures refusal { result_err result ≡ refused (not (is_number (front line.now))) BrokenLine accepted }
+    ensures refusal { refused_with result
+        ≡ refused (not (is_number (front line.now))) 10 accepted }
 {
     let (digits, rest) = cut(line, b' ');
     let value = number(digits).ok_or(Refusal::BrokenLine)?;
     Ok((value, rest))
 }
 
-// The plan that the first line of a link's text hands in: `B m α L` in decimal, and W or F.
+/// The plan that the first line of a link's text hands in: `B m α L` in decimal, and W or F. Refuses a line that breaks this
+/// form or is too long (10), and then a number outside its limits (1).
 pub fn read_plan(line: &[u8]) -> Result<Plan, Refusal>
-    ensures refusal { result_err result ≡ plan_line_refusal line.now }
-    ensures made { IfOk result (λ p. Says line.now p.burst p.width p.stretch p.symbols p.arithmetic) }
+    ensures refusal { refused_with result ≡ plan_line_refusal line.now }
+    ensures made { IfOk result (λ p. Says line.now p) }
 {
     if line.len() > LONGEST_LINE {
         return Err(Refusal::BrokenLine);

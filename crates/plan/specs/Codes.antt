@@ -1,8 +1,10 @@
 -- The code of a plan. Assumes nothing.
 use Rattle.std.specs.Prelude.{◌≡◌, ℕ, ◌+◌, ◌-◌, ◌≤◌, cond, ◌==◌}
-use Rattle.arithmetic.specs.Operations.{Sums, Products}
+use Rattle.arithmetic.specs.Operations.{Sums, Products, Operations}
 use Rattle.codes.specs.Shape.{Shape}
+use Rattle.codes.specs.Link.{Link}
 use Rattle.codes.specs.Coefficients.{main_shape, main_coefficients, back_shape, back_coefficients, overlay_shape, overlay, spread_shape, spread}
+use Rattle.plan.specs.Numbers.{PlanNumbers}
 use Rattle.plan.specs.declared.code.PlanCode.{PlanCode}
 use Rattle.plan.specs.declared.code.PlanCode.TheVariants.{OneDeadline, TwoDeadlines}
 
@@ -17,6 +19,15 @@ abbrev pub plan_coefficients : {F : Type 0} → Sums F → Products F → ℕ �
 plan_coefficients s p b m α =
     cond (α == 1) (spread s (main_coefficients s p m) b)
     (spread s (overlay s (main_coefficients s p m) (back_coefficients s p m (α - 1)) (m + 1)) b)
+
+-- the link of a plan, over an arithmetic
+abbrev pub plan_link : {F S : Type 0} → Operations F S → PlanNumbers → Link F S
+plan_link o plan = record {
+  operations = o;
+  shape = plan_shape plan.burst plan.width plan.stretch;
+  coefficients = plan_coefficients o.coefficients o.products plan.burst plan.width plan.stretch;
+  symbols = plan.symbols;
+}
 
 -- what a code made of these parts means
 abbrev pub shape_of : PlanCode → Shape

@@ -1,5 +1,6 @@
+//! Plan cards: the numbers that truck and studio agree on, and what follows from them.
 ghost use Rattle.std.specs.Prelude.{◌≡◌, ◌≤◌, IfOk};
-ghost use Rattle.std.specs.Result.{result_err};
+ghost use Rattle.refusal.specs.Order.{refused_with};
 ghost use Rattle.plan.specs.Numbers.{plan_refusal, short_deadline_of, deadline_of};
 ghost use Rattle.plan.specs.Codes.{CodeOf, shape_of, plan_shape};
 
@@ -11,38 +12,57 @@ use codes::overlay::Overlay;
 use codes::spread::Spread;
 use codes::step::Step;
 use refusal::Refusal;
+use std::marker::Model;
 
-// Which arithmetic a link is run in.
+/// Which arithmetic a link is run in.
 #[derive(Clone, Copy, PartialEq, Eq, Debug)]
 pub enum ArithmeticName {
-    // Symbols of 32 bits, coefficients 0 and 1.
+    /// Symbols of 32 bits, coefficients 0 and 1.
     Word,
-    // Symbols of a byte, in the field of 256 elements.
+    /// Symbols of a byte, coefficients in the field of 256 elements.
     Byte,
 }
 
-// The losses of a short run, B.
+/// The losses of a short run, B.
 pub type Burst = Ranged<1, 63>;
 
-// How much longer a long run may be, α.
+/// How many times the losses of a short run a long one may have, α.
 pub type Stretch = Ranged<1, 8>;
 
-// A plan: a link for short runs of at most `burst` losses, and for long ones of at most `stretch` times as many.
+/// A plan: a link for short runs of at most B losses, and for long ones of at most α times as many. A clause sees its numbers.
 #[derive(Clone, Copy)]
 pub struct Plan {
-    // B, the losses of a short run.
     burst: Burst,
-    // m, the sub-symbols of a packet: a short run is repaired within m times B slots.
     width: Sources,
-    // α, how much longer a long run may be; 1 for a plan with one deadline.
     stretch: Stretch,
-    // L, the symbols of a sub-symbol.
     symbols: Symbols,
     arithmetic: ArithmeticName,
 }
 
+impl Model for Plan {
+    ghost use Rattle.plan.specs.Numbers.{PlanNumbers};
+
+    ghost Value = { PlanNumbers };
+
+    ghost view = { λ p. record {
+      burst = p.burst;
+      width = p.width;
+      stretch = p.stretch;
+      symbols = p.symbols;
+      arithmetic = p.arithmetic;
+    } };
+
+    ghost inverse = { λ n. record {
+      burst = n.burst;
+      width = n.width;
+      stretch = n.stretch;
+      symbols = n.symbols;
+      arithmetic = n.arithmetic;
+    } };
+}
+
 impl Plan {
-    // Refuses a number outside its limits: B 1 to 63, m 1 to 8, α 1 to 8, L 1 to 32.
+    /// The plan of these numbers; refuses one outside its limits (1): B is 1 to 63, m 1 to 8, α 1 to 8, L 1 to 32.
     pub fn new(
         burst: u32,
         width: u32,
@@ -50,8 +70,14 @@ impl Plan {
         symbols: u32,
         arithmetic: ArithmeticName,
     ) -> Result<Plan, Refusal>
-        ensures refusal { result_err result ≡ plan_refusal burst width stretch symbols }
-        ensures made { IfOk result (λ p. (p.burst ≡ burst) × (p.width ≡ width) × (p.stretch ≡ stretch) × (p.symbols ≡ symbols) × (p.arithmetic ≡ arithmetic)) }
+        ensures refusal { refused_with result ≡ plan_refusal burst width stretch symbols }
+        ensures made { IfOk result (λ p. p ≡ record {
+          burst = burst;
+          width = width;
+          stretch = stretch;
+          symbols = symbols;
+          arithmetic = arithmetic;
+        }) }
     {
         Ok(Plan {
             burst: Burst::new(burst)?,
@@ -62,6 +88,7 @@ impl Plan {
         })
     }
 
+    /// B, the losses of a short run.
     pub fn burst(&self) -> u32
         ensures value { result ≡ self.now.burst }
         ensures range { (1 ≤ result) × (result ≤ 63) }
@@ -69,6 +96,7 @@ impl Plan {
         self.burst.value()
     }
 
+    /// m, the sub-symbols of a packet: a short run is repaired within m times B slots.
     pub fn width(&self) -> u32
         ensures value { result ≡ self.now.width }
         ensures range { (1 ≤ result) × (result ≤ 8) }
@@ -76,6 +104,7 @@ impl Plan {
         self.width.value()
     }
 
+    /// α, how many times the losses of a short run a long one may have; 1 for a plan with one deadline.
     pub fn stretch(&self) -> u32
         ensures value { result ≡ self.now.stretch }
         ensures range { (1 ≤ result) × (result ≤ 8) }
@@ -83,6 +112,7 @@ impl Plan {
         self.stretch.value()
     }
 
+    /// L, the symbols of a sub-symbol.
     pub fn symbols(&self) -> u32
         ensures value { result ≡ self.now.symbols }
         ensures range { (1 ≤ result) × (result ≤ 32) }
@@ -90,13 +120,14 @@ impl Plan {
         self.symbols.value()
     }
 
+    /// The arithmetic that the link is run in.
     pub fn arithmetic(&self) -> ArithmeticName
         ensures { result ≡ self.now.arithmetic }
     {
         self.arithmetic
     }
 
-    // T, the slots after its own within which a packet of a short run is repaired.
+    /// T, the slots after its own within which a packet of a short run is repaired.
     pub fn short_deadline(&self) -> u32
         ensures value { result ≡ short_deadline_of self.now.burst self.now.width }
         ensures bound { result ≤ 504 }
@@ -104,9 +135,9 @@ impl Plan {
         self.width() * self.burst()
     }
 
-    // D, the slots after its own within which every packet is repaired.
+    /// D, the slots after its own within which every packet is repaired.
     pub fn deadline(&self) -> u32
-        ensures value { result ≡ deadline_of self.now.burst self.now.width self.now.stretch }
+        ensures value { let p = self.now in result ≡ deadline_of p.burst p.width p.stretch }
         ensures bound { result ≤ 4095 }
     {
         let stretch = self.stretch();
@@ -117,11 +148,12 @@ impl Plan {
         }
     }
 
-    // The plan's code. It reaches back just as far as the deadline.
+    /// The plan's code. It reaches back just as far as the deadline.
     pub fn code(&self) -> PlanCode
-        ensures parts { CodeOf self.now.burst self.now.width self.now.stretch result }
-        ensures shape { shape_of result ≡ plan_shape self.now.burst self.now.width self.now.stretch }
-        ensures memory { (shape_of result).memory ≡ deadline_of self.now.burst self.now.width self.now.stretch }
+        ensures parts { let p = self.now in CodeOf p.burst p.width p.stretch result }
+        ensures shape { let p = self.now in shape_of result ≡ plan_shape p.burst p.width p.stretch }
+        ensures memory { let p = self.now in
+            (shape_of result).memory ≡ deadline_of p.burst p.width p.stretch }
     {
         let delay = self.width() + 1;
         let first = MainDiagonal::of(self.width);

@@ -1,3 +1,4 @@
+//! The code of a plan.
 ghost use Rattle.std.specs.Prelude.{◌≡◌, ℕ};
 ghost use Rattle.codes.specs.Shape.{Outside};
 ghost use Rattle.plan.specs.Codes.{shape_of, coefficients_of, CodeOf, plan_coefficients};
@@ -13,12 +14,12 @@ use codes::main_diagonal::MainDiagonal;
 use codes::overlay::Overlay;
 use codes::spread::Spread;
 
-// The code of a plan.
+/// The code of a plan, made of parts that anybody can use.
 #[derive(Clone, Copy)]
 pub enum PlanCode {
-    // For short runs only: the main diagonal.
+    /// For short runs only: the main diagonal.
     OneDeadline(Spread<MainDiagonal>),
-    // For long runs as well: the back diagonal over it, delayed.
+    /// For long runs as well: the back diagonal over it, delayed.
     TwoDeadlines(Spread<Overlay<MainDiagonal, BackDiagonal>>),
 }
 
@@ -33,17 +34,22 @@ impl<F: Field> Code<F> for PlanCode {
           let s = F.Sum.sum in
           let p = F.Field.product in
           let m = c.code.width in
-          spread_bounded s (main_shape m) (main_coefficients s p m) c.step.value (main_bounded s p m)
+          spread_bounded s (main_shape m) (main_coefficients s p m) c.step.value
+          (main_bounded s p m)
       | TwoDeadlines c ↦
           let s = F.Sum.sum in
           let p = F.Field.product in
           let m = c.code.first.width in
           let back = c.code.second in
-          let x = back_shape back.width back.step.value in
-          let d = back_coefficients s p back.width back.step.value in
+          let x = main_shape m in
+          let y = back_shape back.width back.step.value in
+          let first = main_coefficients s p m in
+          let second = back_coefficients s p back.width back.step.value in
           let delay = c.code.delay in
-          spread_bounded s (overlay_shape (main_shape m) x delay) (Coefficients.overlay s (main_coefficients s p m) d delay) c.step.value
-          (overlay_bounded s F.Sum.sums (main_shape m) x (main_coefficients s p m) d delay (main_bounded s p m) (back_bounded s p back.width back.step.value))
+          spread_bounded s (overlay_shape x y delay) (Coefficients.overlay s first second delay)
+          c.step.value
+          (overlay_bounded s F.Sum.sums x y first second delay (main_bounded s p m)
+          (back_bounded s p back.width back.step.value))
     ] };
 
     fn sources(&self) -> u32 {
@@ -70,7 +76,8 @@ impl<F: Field> Code<F> for PlanCode {
     fn coefficient(&self, parity: u32, age: u32, sub: u32) -> F
         ensures value { result ≡ coefficients_of F.Sum.sum F.Field.product self.now parity age sub }
         ensures outside { Outside (shape_of self.now) parity age sub → result ≡ F.Sum.sum.zero }
-        ensures plan { (b m α : ℕ) → CodeOf b m α self.now → result ≡ plan_coefficients F.Sum.sum F.Field.product b m α parity age sub }
+        ensures plan { (b m α : ℕ) → CodeOf b m α self.now
+            → result ≡ plan_coefficients F.Sum.sum F.Field.product b m α parity age sub }
     {
         match self {
             PlanCode::OneDeadline(code) => code.coefficient(parity, age, sub),

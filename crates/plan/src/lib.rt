@@ -1,4 +1,4 @@
-// Plans: what the cards in truck and studio agree on, and the code that follows from them.
+//! Plans: what the cards in truck and studio agree on, and the code that follows from them.
 #![tactic(auto)]
 
 pub mod card;

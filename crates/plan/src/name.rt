@@ -1,10 +1,11 @@
+//! The names of the arithmetics, as they are printed.
 ghost use Rattle.std.specs.Prelude.{Some};
 ghost use Rattle.plan.specs.Names.{text_of_name};
 
 use crate::card::ArithmeticName;
 use std::fmt;
 
-// The name as it is printed.
+// `word` or `byte`.
 impl fmt::Display for ArithmeticName {
     ghost output = { λ name. Some (text_of_name name) };
 

@@ -1,7 +1,5 @@
 -- The limits of a memory's size, and of its slices. Assumes nothing.
 use Rattle.std.specs.Prelude.{ℕ, ◌*◌, ◌≤◌, Bool, ◌||◌, Option, nat_lt}
-use Rattle.refusal.specs.declared.Refusal.{Refusal}
-use Rattle.refusal.specs.declared.Refusal.TheVariants.{OutsideLimits}
 use Rattle.refusal.specs.Order.{refused, accepted}
 use Rattle.codes.specs.Shape.{out_of}
 use Rattle.systems.specs.System.{Size, rows}
@@ -15,12 +13,12 @@ pub record InLimits (z : Size) : Type 0 where
   pub some_symbol : 1 ≤ z.symbols
   pub few_symbols : z.symbols ≤ 32
 
--- what the making of another size is refused for
-abbrev pub size_refusal : Size → Option Refusal
+-- the number that the making of another size is refused with
+abbrev pub size_refusal : Size → Option ℕ
 size_refusal z =
-    refused (out_of 1 128 z.unknowns) OutsideLimits
-    (refused (out_of 1 4294967295 z.spare) OutsideLimits
-    (refused (out_of 1 32 z.symbols) OutsideLimits accepted))
+    refused (out_of 1 128 z.unknowns) 1
+    (refused (out_of 1 4294967295 z.spare) 1
+    (refused (out_of 1 32 z.symbols) 1 accepted))
 
 -- slices of so many coefficients and symbols do not hold n rows
 abbrev pub short_by : Size → ℕ → ℕ → ℕ → Bool

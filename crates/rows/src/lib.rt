@@ -1,4 +1,4 @@
-// The memory of a solver: its rows, in two slices, and the steps on them.
+//! The memory of a solver: its rows, in two slices, and the steps on them.
 #![tactic(auto)]
 
 pub mod equations;

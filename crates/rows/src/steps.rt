@@ -1,3 +1,4 @@
+//! The steps on the rows of a memory.
 ghost use Rattle.std.specs.Prelude.{◌≡◌, ℕ, ◌<◌, ◌≤◌, ◌≢◌, ◌+◌, ◌*◌, length, slice_index_or, MatchOption, Decides};
 ghost use Rattle.systems.specs.System.{rows};
 ghost use Rattle.systems.specs.Steps.{Added, Scaled, Moved, Copied, Emptied, OneWritten, ShiftedRow};
@@ -10,7 +11,7 @@ use arithmetic::arithmetic::Arithmetic;
 use arithmetic::coefficients::{add_product, one, times, zero};
 use arithmetic::combine::{add_scaled, no_terms};
 
-// Adds c times row `source` to row `to`.
+/// Adds c times row `source` to row `to`.
 pub fn add_row<A: Arithmetic>(
     size: &Size,
     coefficients: &mut [A::Coef],
@@ -22,7 +23,9 @@ pub fn add_row<A: Arithmetic>(
     requires room { Room size.now (length coefficients.old) (length symbols.old) }
     requires within { (to < rows size.now) × (source < rows size.now) }
     requires apart { to ≢ source }
-    ensures { Added A.Arithmetic.operations size.now (memory A.Arithmetic.operations size.now coefficients.old symbols.old) (memory A.Arithmetic.operations size.now coefficients.new symbols.new) to source c }
+    ensures { let old = memory A.operations size.now coefficients.old symbols.old in
+        let new = memory A.operations size.now coefficients.new symbols.new in
+        Added A.operations size.now old new to source c }
 {
     let (n, l) = (size.unknowns(), size.symbols());
     combine(
@@ -41,7 +44,7 @@ pub fn add_row<A: Arithmetic>(
     );
 }
 
-// Scales a row.
+/// Scales row `row` by c.
 pub fn scale_row<A: Arithmetic>(
     size: &Size,
     coefficients: &mut [A::Coef],
@@ -51,14 +54,16 @@ pub fn scale_row<A: Arithmetic>(
 )
     requires room { Room size.now (length coefficients.old) (length symbols.old) }
     requires within { row < rows size.now }
-    ensures { Scaled A.Arithmetic.operations size.now (memory A.Arithmetic.operations size.now coefficients.old symbols.old) (memory A.Arithmetic.operations size.now coefficients.new symbols.new) row c }
+    ensures { let old = memory A.operations size.now coefficients.old symbols.old in
+        let new = memory A.operations size.now coefficients.new symbols.new in
+        Scaled A.operations size.now old new row c }
 {
     let (n, l) = (size.unknowns(), size.symbols());
     change(coefficients, row * n, n, |x| times::<A>(c, x));
     change(symbols, row * l, l, |x| A::scale(c, x));
 }
 
-// Makes a row say nothing.
+/// Makes a row say nothing.
 pub fn empty_row<A: Arithmetic>(
     size: &Size,
     coefficients: &mut [A::Coef],
@@ -67,7 +72,9 @@ pub fn empty_row<A: Arithmetic>(
 )
     requires room { Room size.now (length coefficients.old) (length symbols.old) }
     requires within { row < rows size.now }
-    ensures { Emptied A.Arithmetic.operations size.now (memory A.Arithmetic.operations size.now coefficients.old symbols.old) (memory A.Arithmetic.operations size.now coefficients.new symbols.new) row }
+    ensures { let old = memory A.operations size.now coefficients.old symbols.old in
+        let new = memory A.operations size.now coefficients.new symbols.new in
+        Emptied A.operations size.now old new row }
 {
     let (n, l) = (size.unknowns(), size.symbols());
     change(coefficients, row * n, n, |_| zero::<A>());
@@ -85,14 +92,16 @@ fn repeat_row<A: Arithmetic>(
     requires room { Room size.now (length coefficients.old) (length symbols.old) }
     requires within { (to < rows size.now) × (source < rows size.now) }
     requires apart { to ≢ source }
-    ensures { Copied A.Arithmetic.operations size.now (memory A.Arithmetic.operations size.now coefficients.old symbols.old) (memory A.Arithmetic.operations size.now coefficients.old symbols.old) (memory A.Arithmetic.operations size.now coefficients.new symbols.new) to source }
+    ensures { let old = memory A.operations size.now coefficients.old symbols.old in
+        let new = memory A.operations size.now coefficients.new symbols.new in
+        Copied A.operations size.now old old new to source }
 {
     let (n, l) = (size.unknowns(), size.symbols());
     combine(coefficients, to * n, source * n, n, |_, y| y);
     combine(symbols, to * l, source * l, l, |_, y| y);
 }
 
-// Row `to` takes over what row `source` says, which then says nothing.
+/// Row `to` takes over what row `source` says, which then says nothing.
 pub fn move_row<A: Arithmetic>(
     size: &Size,
     coefficients: &mut [A::Coef],
@@ -103,13 +112,15 @@ pub fn move_row<A: Arithmetic>(
     requires room { Room size.now (length coefficients.old) (length symbols.old) }
     requires within { (to < rows size.now) × (source < rows size.now) }
     requires apart { to ≢ source }
-    ensures { Moved A.Arithmetic.operations size.now (memory A.Arithmetic.operations size.now coefficients.old symbols.old) (memory A.Arithmetic.operations size.now coefficients.new symbols.new) to source }
+    ensures { let old = memory A.operations size.now coefficients.old symbols.old in
+        let new = memory A.operations size.now coefficients.new symbols.new in
+        Moved A.operations size.now old new to source }
 {
     repeat_row::<A>(size, coefficients, symbols, to, source);
     empty_row::<A>(size, coefficients, symbols, source);
 }
 
-// Writes an equation that was handed in into row `to`.
+/// Writes an equation that was handed in into row `to`.
 pub fn copy_row<A: Arithmetic>(
     size: &Size,
     coefficients: &mut [A::Coef],
@@ -120,15 +131,21 @@ pub fn copy_row<A: Arithmetic>(
 )
     requires room { Room size.now (length coefficients.old) (length symbols.old) }
     requires within { to < rows size.now }
-    requires equations { (source * size.now.unknowns + size.now.unknowns ≤ length equations.now.coefficients.now) × (source * size.now.symbols + size.now.symbols ≤ length equations.now.symbols.now) }
-    ensures { Copied A.Arithmetic.operations size.now (memory A.Arithmetic.operations size.now equations.now.coefficients.now equations.now.symbols.now) (memory A.Arithmetic.operations size.now coefficients.old symbols.old) (memory A.Arithmetic.operations size.now coefficients.new symbols.new) to source }
+    requires equations { let z = size.now in
+        (source * z.unknowns + z.unknowns ≤ length equations.now.coefficients.now)
+        × (source * z.symbols + z.symbols ≤ length equations.now.symbols.now) }
+    ensures { let lent = equations.now in
+        let given = memory A.operations size.now lent.coefficients.now lent.symbols.now in
+        let old = memory A.operations size.now coefficients.old symbols.old in
+        let new = memory A.operations size.now coefficients.new symbols.new in
+        Copied A.operations size.now given old new to source }
 {
     let (n, l) = (size.unknowns(), size.symbols());
     copy(coefficients, to * n, equations.coefficients, source * n, n);
     copy(symbols, to * l, equations.symbols, source * l, l);
 }
 
-// A coefficient of a row.
+/// The coefficient of a row in a column.
 pub fn coefficient_at<A: Arithmetic>(
     size: &Size,
     coefficients: &[A::Coef],
@@ -137,12 +154,12 @@ pub fn coefficient_at<A: Arithmetic>(
 ) -> A::Coef
     requires room { rows size.now * size.now.unknowns ≤ length coefficients.now }
     requires within { (row < rows size.now) × (column < size.now.unknowns) }
-    ensures { result ≡ coefficient A.Arithmetic.operations size.now coefficients.now row column }
+    ensures { result ≡ coefficient A.operations size.now coefficients.now row column }
 {
     read(coefficients, row * size.unknowns() + column)
 }
 
-// Writes a one into a row.
+/// Writes a one into a row, in a column.
 pub fn write_one<A: Arithmetic>(
     size: &Size,
     coefficients: &mut [A::Coef],
@@ -151,12 +168,14 @@ pub fn write_one<A: Arithmetic>(
 )
     requires room { rows size.now * size.now.unknowns ≤ length coefficients.old }
     requires within { (row < rows size.now) × (column < size.now.unknowns) }
-    ensures { (ss : _) → OneWritten A.Arithmetic.operations size.now (memory A.Arithmetic.operations size.now coefficients.old ss) (memory A.Arithmetic.operations size.now coefficients.new ss) row column }
+    ensures { (ss : _) → OneWritten A.operations size.now
+        (memory A.operations size.now coefficients.old ss)
+        (memory A.operations size.now coefficients.new ss) row column }
 {
     write(coefficients, row * size.unknowns() + column, one::<A>());
 }
 
-// Row `row` takes over what the row `by` further down says, of unknowns that are `by` further on.
+/// Row `row` takes over what the row `by` further down says, of unknowns that are `by` further on.
 pub fn shift_row<A: Arithmetic>(
     size: &Size,
     coefficients: &mut [A::Coef],
@@ -167,7 +186,9 @@ pub fn shift_row<A: Arithmetic>(
     requires room { Room size.now (length coefficients.old) (length symbols.old) }
     requires within { row + by < rows size.now }
     requires some { (0 < by) × (by ≤ size.now.unknowns) }
-    ensures { ShiftedRow A.Arithmetic.operations size.now by (memory A.Arithmetic.operations size.now coefficients.old symbols.old) (memory A.Arithmetic.operations size.now coefficients.new symbols.new) row }
+    ensures { let old = memory A.operations size.now coefficients.old symbols.old in
+        let new = memory A.operations size.now coefficients.new symbols.new in
+        ShiftedRow A.operations size.now by old new row }
 {
     let (n, l) = (size.unknowns(), size.symbols());
     let staying = n - by;
@@ -182,7 +203,7 @@ pub fn shift_row<A: Arithmetic>(
     combine(symbols, row * l, (row + by) * l, l, |_, y| y);
 }
 
-// The column of a row's first coefficient that is not zero.
+/// The column of a row's first coefficient that is not zero.
 pub fn first_column<A: Arithmetic>(
     size: &Size,
     coefficients: &[A::Coef],
@@ -190,7 +211,8 @@ pub fn first_column<A: Arithmetic>(
 ) -> Option<usize>
     requires room { rows size.now * size.now.unknowns ≤ length coefficients.now }
     requires within { row < rows size.now }
-    ensures { MatchOption result (NoCoefficient A.Arithmetic.operations size.now coefficients.now row) (FirstColumn A.Arithmetic.operations size.now coefficients.now row) }
+    ensures { MatchOption result (NoCoefficient A.operations size.now coefficients.now row)
+        (FirstColumn A.operations size.now coefficients.now row) }
 {
     first_other(
         coefficients,
@@ -200,11 +222,11 @@ pub fn first_column<A: Arithmetic>(
     )
 }
 
-// Whether a row's symbols are all zero.
+/// Whether a row's symbols are all zero.
 pub fn symbols_are_zero<A: Arithmetic>(size: &Size, symbols: &[A::Sym], row: usize) -> bool
     requires room { rows size.now * size.now.symbols ≤ length symbols.now }
     requires within { row < rows size.now }
-    ensures { Decides result (NoSymbol A.Arithmetic.operations size.now symbols.now row) }
+    ensures { Decides result (NoSymbol A.operations size.now symbols.now row) }
 {
     first_other(
         symbols,
@@ -215,12 +237,14 @@ pub fn symbols_are_zero<A: Arithmetic>(size: &Size, symbols: &[A::Sym], row: usi
     .is_none()
 }
 
-// A row's symbols.
+/// The symbols of a row, L of them.
 pub fn symbols_of<'m, A: Arithmetic>(size: &Size, symbols: &'m [A::Sym], row: usize) -> &'m [A::Sym]
     requires room { rows size.now * size.now.symbols ≤ length symbols.now }
     requires within { row < rows size.now }
     ensures whole { length result.now ≡ size.now.symbols }
-    ensures each { (p : ℕ) → p < size.now.symbols → slice_index_or result.now p A.Arithmetic.operations.symbols.zero ≡ symbol A.Arithmetic.operations size.now symbols.now row p }
+    ensures each { let o = A.operations in
+        (p : ℕ) → p < size.now.symbols
+        → slice_index_or result.now p o.symbols.zero ≡ symbol o size.now symbols.now row p }
 {
     let start = row * size.symbols();
     &symbols[start..start + size.symbols()]

@@ -1,3 +1,4 @@
+//! Equations in the spare rows become rows of unknowns.
 ghost use Rattle.std.specs.Prelude.{ℕ, ◌+◌, ◌<◌, ◌≤◌, ◌↔◌, length};
 ghost use Rattle.systems.specs.System.{rows, Solves};
 ghost use Rattle.systems.specs.Form.{SameRow, KeptFormOf};
@@ -20,7 +21,9 @@ fn clear_column<A: Arithmetic>(
     requires room { Room size.now (length coefficients.old) (length symbols.old) }
     requires within { (row < rows size.now) × (column < size.now.unknowns) }
     requires spare { size.now.unknowns ≤ row }
-    ensures { Cleared A.Arithmetic.operations size.now (memory A.Arithmetic.operations size.now coefficients.old symbols.old) (memory A.Arithmetic.operations size.now coefficients.new symbols.new) row column size.now.unknowns }
+    ensures { let old = memory A.operations size.now coefficients.old symbols.old in
+        let new = memory A.operations size.now coefficients.new symbols.new in
+        Cleared A.operations size.now old new row column size.now.unknowns }
 {
     for other in 0..size.unknowns() {
         let c = negative::<A>(coefficient_at::<A>(size, coefficients, other, column));
@@ -38,10 +41,16 @@ fn join_row<A: Arithmetic>(
     requires room { Room size.now (length coefficients.old) (length symbols.old) }
     requires within { row < rows size.now }
     requires spare { size.now.unknowns ≤ row }
-    requires joined { Joined A.Arithmetic.operations size.now (memory A.Arithmetic.operations size.now coefficients.old symbols.old) row }
-    ensures joined { Joined A.Arithmetic.operations size.now (memory A.Arithmetic.operations size.now coefficients.new symbols.new) (row + 1) }
-    ensures means { (x : _) → Solves A.Arithmetic.operations size.now (memory A.Arithmetic.operations size.now coefficients.new symbols.new) x ↔ Solves A.Arithmetic.operations size.now (memory A.Arithmetic.operations size.now coefficients.old symbols.old) x }
-    ensures behind { (r : ℕ) → rows size.now ≤ r → SameRow size.now (memory A.Arithmetic.operations size.now coefficients.new symbols.new) (memory A.Arithmetic.operations size.now coefficients.old symbols.old) r }
+    requires joined { let old = memory A.operations size.now coefficients.old symbols.old in
+        Joined A.operations size.now old row }
+    ensures joined { let new = memory A.operations size.now coefficients.new symbols.new in
+        Joined A.operations size.now new (row + 1) }
+    ensures means { let old = memory A.operations size.now coefficients.old symbols.old in
+        let new = memory A.operations size.now coefficients.new symbols.new in
+        (x : _) → Solves A.operations size.now new x ↔ Solves A.operations size.now old x }
+    ensures behind { let old = memory A.operations size.now coefficients.old symbols.old in
+        let new = memory A.operations size.now coefficients.new symbols.new in
+        (r : ℕ) → rows size.now ≤ r → SameRow size.now new old r }
 {
     if let Some(column) = first_column::<A>(size, coefficients, row) {
         clear_column::<A>(size, coefficients, symbols, row, column);
@@ -52,9 +61,14 @@ fn join_row<A: Arithmetic>(
 // Makes what the spare rows say rows of unknowns.
 pub(crate) fn join<A: Arithmetic>(size: &Size, coefficients: &mut [A::Coef], symbols: &mut [A::Sym])
     requires room { Room size.now (length coefficients.old) (length symbols.old) }
-    requires joined { Joined A.Arithmetic.operations size.now (memory A.Arithmetic.operations size.now coefficients.old symbols.old) size.now.unknowns }
-    ensures form { KeptFormOf A.Arithmetic.operations size.now (memory A.Arithmetic.operations size.now coefficients.new symbols.new) (Solves A.Arithmetic.operations size.now (memory A.Arithmetic.operations size.now coefficients.old symbols.old)) }
-    ensures behind { (r : ℕ) → rows size.now ≤ r → SameRow size.now (memory A.Arithmetic.operations size.now coefficients.new symbols.new) (memory A.Arithmetic.operations size.now coefficients.old symbols.old) r }
+    requires joined { let old = memory A.operations size.now coefficients.old symbols.old in
+        Joined A.operations size.now old size.now.unknowns }
+    ensures form { let old = memory A.operations size.now coefficients.old symbols.old in
+        let new = memory A.operations size.now coefficients.new symbols.new in
+        KeptFormOf A.operations size.now new (Solves A.operations size.now old) }
+    ensures behind { let old = memory A.operations size.now coefficients.old symbols.old in
+        let new = memory A.operations size.now coefficients.new symbols.new in
+        (r : ℕ) → rows size.now ≤ r → SameRow size.now new old r }
 {
     for row in size.unknowns()..size.rows() {
         join_row::<A>(size, coefficients, symbols, row);

@@ -1,5 +1,6 @@
+//! Whether a memory is in kept form.
 ghost use Rattle.std.specs.Prelude.{◌≡◌, ℕ, ◌<◌, ◌≤◌, ◌≢◌, ◌*◌, true, length, IfOk, Decides};
-ghost use Rattle.std.specs.Result.{result_err};
+ghost use Rattle.refusal.specs.Order.{refused_with};
 ghost use Rattle.systems.specs.System.{rows, Solves};
 ghost use Rattle.systems.specs.Kept.{Empty, Gives, Kept};
 ghost use Rattle.systems.specs.Form.{KeptFormOf};
@@ -17,7 +18,9 @@ use rows::steps::{coefficient_at, first_column, symbols_are_zero};
 fn is_alone<A: Arithmetic>(size: &Size, coefficients: &[A::Coef], unknown: usize) -> bool
     requires room { rows size.now * size.now.unknowns ≤ length coefficients.now }
     requires within { unknown < size.now.unknowns }
-    ensures { Decides result ((r : ℕ) → r < rows size.now → r ≢ unknown → coefficient A.Arithmetic.operations size.now coefficients.now r unknown ≡ A.Arithmetic.operations.coefficients.zero) }
+    ensures { let o = A.operations in
+        Decides result ((r : ℕ) → r < rows size.now → r ≢ unknown
+        → coefficient o size.now coefficients.now r unknown ≡ o.coefficients.zero) }
 {
     for row in 0..size.rows() {
         if row != unknown
@@ -38,7 +41,8 @@ fn is_empty<A: Arithmetic>(
 ) -> bool
     requires room { Room size.now (length coefficients.now) (length symbols.now) }
     requires within { row < rows size.now }
-    ensures { Decides result (Empty A.Arithmetic.operations size.now (memory A.Arithmetic.operations size.now coefficients.now symbols.now) row) }
+    ensures { let held = memory A.operations size.now coefficients.now symbols.now in
+        Decides result (Empty A.operations size.now held row) }
 {
     first_column::<A>(size, coefficients, row).is_none()
         && symbols_are_zero::<A>(size, symbols, row)
@@ -53,22 +57,28 @@ fn is_giving<A: Arithmetic>(
 ) -> bool
     requires room { Room size.now (length coefficients.now) (length symbols.now) }
     requires within { unknown < size.now.unknowns }
-    ensures { Decides result (Gives A.Arithmetic.operations size.now (memory A.Arithmetic.operations size.now coefficients.now symbols.now) unknown) }
+    ensures { let held = memory A.operations size.now coefficients.now symbols.now in
+        Decides result (Gives A.operations size.now held unknown) }
 {
     first_column::<A>(size, coefficients, unknown) == Some(unknown)
         && coefficient_at::<A>(size, coefficients, unknown, unknown).same(one::<A>())
         && is_alone::<A>(size, coefficients, unknown)
 }
 
-// Whether a memory is in kept form. If it is, it stands for at least one content, and no other memory in kept form stands for the same ones.
+/// Whether a memory is in kept form; refuses one that is too short (3). If it is, it stands for at
+/// least one content, and no other memory in kept form stands for the same ones.
 pub fn is_kept<A: Arithmetic>(
     size: &Size,
     coefficients: &[A::Coef],
     symbols: &[A::Sym],
 ) -> Result<bool, Refusal>
-    ensures refusal { result_err result ≡ memory_refusal size.now (length coefficients.now) (length symbols.now) }
-    ensures decides { IfOk result (λ b. Decides b (Kept A.Arithmetic.operations size.now (memory A.Arithmetic.operations size.now coefficients.now symbols.now))) }
-    ensures form { IfOk result (λ b. b ≡ true → KeptFormOf A.Arithmetic.operations size.now (memory A.Arithmetic.operations size.now coefficients.now symbols.now) (Solves A.Arithmetic.operations size.now (memory A.Arithmetic.operations size.now coefficients.now symbols.now))) }
+    ensures refusal { refused_with result
+        ≡ memory_refusal size.now (length coefficients.now) (length symbols.now) }
+    ensures decides { let held = memory A.operations size.now coefficients.now symbols.now in
+        IfOk result (λ b. Decides b (Kept A.operations size.now held)) }
+    ensures form { let held = memory A.operations size.now coefficients.now symbols.now in
+        IfOk result (λ b. b ≡ true
+        → KeptFormOf A.operations size.now held (Solves A.operations size.now held)) }
 {
     if size.exceeds(coefficients.len(), symbols.len()) {
         return Err(Refusal::ShortMemory);

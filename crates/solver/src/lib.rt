@@ -1,5 +1,6 @@
-// Solves for unknowns: keeps what equations say of them in a form from which everything can be read that follows.
-// Calls that require a memory in kept form are inner ones: their callers have tested it.
+//! Solves for unknowns: keeps what equations say of them in a form from which everything can be
+//! read that follows. Calls that require a memory in kept form are inner ones: their callers have
+//! tested it.
 #![tactic(auto)]
 
 pub mod batch;

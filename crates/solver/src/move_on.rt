@@ -1,5 +1,6 @@
+//! Moving on to newer unknowns.
 ghost use Rattle.std.specs.Prelude.{◌≡◌, ◌<◌, ◌≤◌, length, OnErr, OnOk};
-ghost use Rattle.std.specs.Result.{result_err};
+ghost use Rattle.refusal.specs.Order.{refused_with};
 ghost use Rattle.systems.specs.System.{rows};
 ghost use Rattle.systems.specs.Kept.{Kept};
 ghost use Rattle.systems.specs.Form.{KeptFormOf};
@@ -21,7 +22,9 @@ fn shift<A: Arithmetic>(
 )
     requires room { Room size.now (length coefficients.old) (length symbols.old) }
     requires some { (1 ≤ count) × (count ≤ size.now.unknowns) }
-    ensures { Shifted A.Arithmetic.operations size.now count (memory A.Arithmetic.operations size.now coefficients.old symbols.old) (memory A.Arithmetic.operations size.now coefficients.new symbols.new) }
+    ensures { let old = memory A.operations size.now coefficients.old symbols.old in
+        let new = memory A.operations size.now coefficients.new symbols.new in
+        Shifted A.operations size.now count old new }
 {
     let staying = size.unknowns() - count;
     for row in 0..staying {
@@ -32,18 +35,26 @@ fn shift<A: Arithmetic>(
     }
 }
 
-// The oldest `count` unknowns go, and as many new ones come in at the end, about which nothing is known. What the rows say about the others
-// together remains.
+/// The oldest `count` unknowns go, and as many new ones come in at the end, about which nothing is
+/// known. What the rows say about the others together remains. Refuses a count that is not 1 to N
+/// (1), and a memory that is too short (3).
 pub fn move_on<A: Arithmetic>(
     size: &Size,
     coefficients: &mut [A::Coef],
     symbols: &mut [A::Sym],
     count: usize,
 ) -> Result<(), Refusal>
-    requires kept { Room size.now (length coefficients.old) (length symbols.old) → Kept A.Arithmetic.operations size.now (memory A.Arithmetic.operations size.now coefficients.old symbols.old) }
-    ensures refusal { result_err result ≡ move_refusal size.now count (length coefficients.old) (length symbols.old) }
-    ensures unchanged { OnErr result ((coefficients.new ≡ coefficients.old) × (symbols.new ≡ symbols.old)) }
-    ensures form { OnOk result (KeptFormOf A.Arithmetic.operations size.now (memory A.Arithmetic.operations size.now coefficients.new symbols.new) (Continues A.Arithmetic.operations size.now count (memory A.Arithmetic.operations size.now coefficients.old symbols.old))) }
+    requires kept { let old = memory A.operations size.now coefficients.old symbols.old in
+        Room size.now (length coefficients.old) (length symbols.old)
+        → Kept A.operations size.now old }
+    ensures refusal { refused_with result
+        ≡ move_refusal size.now count (length coefficients.old) (length symbols.old) }
+    ensures unchanged { OnErr result
+        ((coefficients.new ≡ coefficients.old) × (symbols.new ≡ symbols.old)) }
+    ensures form { let old = memory A.operations size.now coefficients.old symbols.old in
+        let new = memory A.operations size.now coefficients.new symbols.new in
+        OnOk result
+        (KeptFormOf A.operations size.now new (Continues A.operations size.now count old)) }
     ensures behind { SameBehind size.now coefficients.old coefficients.new symbols.old symbols.new }
 {
     if count < 1 || count > size.unknowns() {

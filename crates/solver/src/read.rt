@@ -1,5 +1,6 @@
+//! What is known of one unknown.
 ghost use Rattle.std.specs.Prelude.{◌≡◌, ℕ, ◌<◌, ◌≤◌, ◌≢◌, ◌*◌, length, IfOk, MatchOption};
-ghost use Rattle.std.specs.Result.{result_err};
+ghost use Rattle.refusal.specs.Order.{refused_with};
 ghost use Rattle.systems.specs.System.{rows};
 ghost use Rattle.systems.specs.Kept.{Kept};
 ghost use Rattle.systems.specs.Reading.{Differ};
@@ -23,7 +24,10 @@ fn other_column<A: Arithmetic>(
 ) -> Option<usize>
     requires room { rows size.now * size.now.unknowns ≤ length coefficients.now }
     requires within { row < rows size.now }
-    ensures { MatchOption result ((v : ℕ) → v < size.now.unknowns → v ≢ column → coefficient A.Arithmetic.operations size.now coefficients.now row v ≡ A.Arithmetic.operations.coefficients.zero) (λ v. (v < size.now.unknowns) × (v ≢ column) × (coefficient A.Arithmetic.operations size.now coefficients.now row v ≢ A.Arithmetic.operations.coefficients.zero)) }
+    ensures { let zero = A.operations.coefficients.zero in
+        let value = coefficient A.operations size.now coefficients.now row in
+        MatchOption result ((v : ℕ) → v < size.now.unknowns → v ≢ column → value v ≡ zero)
+        (λ v. (v < size.now.unknowns) × (v ≢ column) × (value v ≢ zero)) }
 {
     for other in 0..size.unknowns() {
         if other != column
@@ -35,16 +39,22 @@ fn other_column<A: Arithmetic>(
     None
 }
 
-// The symbols of an unknown, if all contents that the memory stands for share them.
+/// The symbols of an unknown, if all contents that the memory stands for share them. Refuses an
+/// unknown that is not below N (1), and a memory that is too short (3).
 pub fn read<'m, A: Arithmetic>(
     size: &Size,
     coefficients: &[A::Coef],
     symbols: &'m [A::Sym],
     unknown: usize,
 ) -> Result<Option<&'m [A::Sym]>, Refusal>
-    requires kept { Room size.now (length coefficients.now) (length symbols.now) → Kept A.Arithmetic.operations size.now (memory A.Arithmetic.operations size.now coefficients.now symbols.now) }
-    ensures refusal { result_err result ≡ reading_refusal size.now unknown (length coefficients.now) (length symbols.now) }
-    ensures says { IfOk result (λ read. MatchOption read (Differ A.Arithmetic.operations size.now (memory A.Arithmetic.operations size.now coefficients.now symbols.now) unknown) (λ known. Known A.Arithmetic.operations size.now (memory A.Arithmetic.operations size.now coefficients.now symbols.now) unknown known.now)) }
+    requires kept { let held = memory A.operations size.now coefficients.now symbols.now in
+        Room size.now (length coefficients.now) (length symbols.now)
+        → Kept A.operations size.now held }
+    ensures refusal { refused_with result
+        ≡ reading_refusal size.now unknown (length coefficients.now) (length symbols.now) }
+    ensures says { let held = memory A.operations size.now coefficients.now symbols.now in
+        IfOk result (λ read. MatchOption read (Differ A.operations size.now held unknown)
+        (λ known. Known A.operations size.now held unknown known.now)) }
 {
     if unknown >= size.unknowns() {
         return Err(Refusal::OutsideLimits);

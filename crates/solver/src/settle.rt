@@ -1,3 +1,4 @@
+//! Equations in the spare rows are brought so far that they lead.
 ghost use Rattle.std.specs.Prelude.{◌≡◌, ℕ, ◌<◌, ◌≤◌, ◌≢◌, true, false, length};
 ghost use Rattle.systems.specs.System.{rows, Holds, HoldBelow, Solves};
 ghost use Rattle.systems.specs.Form.{SameRow};
@@ -19,8 +20,11 @@ fn reduce<A: Arithmetic>(
 )
     requires room { Room size.now (length coefficients.old) (length symbols.old) }
     requires within { row < rows size.now }
-    requires led { Led A.Arithmetic.operations size.now (memory A.Arithmetic.operations size.now coefficients.old symbols.old) row }
-    ensures { Reduced A.Arithmetic.operations size.now (memory A.Arithmetic.operations size.now coefficients.old symbols.old) (memory A.Arithmetic.operations size.now coefficients.new symbols.new) row row }
+    requires led { let old = memory A.operations size.now coefficients.old symbols.old in
+        Led A.operations size.now old row }
+    ensures { let old = memory A.operations size.now coefficients.old symbols.old in
+        let new = memory A.operations size.now coefficients.new symbols.new in
+        Reduced A.operations size.now old new row row }
 {
     for earlier in 0..row {
         if let Some(column) = first_column::<A>(size, coefficients, earlier) {
@@ -30,7 +34,8 @@ fn reduce<A: Arithmetic>(
     }
 }
 
-// Brings row `row` so far that it says nothing, or leads after the rows before it; false if it contradicts them.
+// Brings row `row` so far that it says nothing, or leads after the rows before it; false if it
+// contradicts them.
 fn settle_row<A: Arithmetic>(
     size: &Size,
     coefficients: &mut [A::Coef],
@@ -39,10 +44,17 @@ fn settle_row<A: Arithmetic>(
 ) -> bool
     requires room { Room size.now (length coefficients.old) (length symbols.old) }
     requires within { row < rows size.now }
-    requires led { Led A.Arithmetic.operations size.now (memory A.Arithmetic.operations size.now coefficients.old symbols.old) row }
-    ensures settled { result ≡ true → SettledRow A.Arithmetic.operations size.now (memory A.Arithmetic.operations size.now coefficients.old symbols.old) (memory A.Arithmetic.operations size.now coefficients.new symbols.new) row }
-    ensures contradiction { result ≡ false → (x : _) → HoldBelow A.Arithmetic.operations size.now (memory A.Arithmetic.operations size.now coefficients.old symbols.old) row x → Holds A.Arithmetic.operations size.now (memory A.Arithmetic.operations size.now coefficients.old symbols.old) x row → ⊥ }
-    ensures others { (r : ℕ) → r ≢ row → SameRow size.now (memory A.Arithmetic.operations size.now coefficients.new symbols.new) (memory A.Arithmetic.operations size.now coefficients.old symbols.old) r }
+    requires led { let old = memory A.operations size.now coefficients.old symbols.old in
+        Led A.operations size.now old row }
+    ensures settled { let old = memory A.operations size.now coefficients.old symbols.old in
+        let new = memory A.operations size.now coefficients.new symbols.new in
+        result ≡ true → SettledRow A.operations size.now old new row }
+    ensures contradiction { let old = memory A.operations size.now coefficients.old symbols.old in
+        result ≡ false → (x : _) → HoldBelow A.operations size.now old row x
+        → Holds A.operations size.now old x row → ⊥ }
+    ensures others { let old = memory A.operations size.now coefficients.old symbols.old in
+        let new = memory A.operations size.now coefficients.new symbols.new in
+        (r : ℕ) → r ≢ row → SameRow size.now new old r }
 {
     reduce::<A>(size, coefficients, symbols, row);
     let Some(column) = first_column::<A>(size, coefficients, row) else {
@@ -55,19 +67,27 @@ fn settle_row<A: Arithmetic>(
     true
 }
 
-// Brings the equations in the spare rows so far that each says nothing or leads, and leaves the rows of the unknowns as they are; false if no
-// content satisfies all of them.
+// Brings the equations in the spare rows so far that each says nothing or leads, and leaves the
+// rows of the unknowns as they are; false if no content satisfies all of them.
 pub(crate) fn settle<A: Arithmetic>(
     size: &Size,
     coefficients: &mut [A::Coef],
     symbols: &mut [A::Sym],
 ) -> bool
     requires room { Room size.now (length coefficients.old) (length symbols.old) }
-    requires among { KeptAmong A.Arithmetic.operations size.now (memory A.Arithmetic.operations size.now coefficients.old symbols.old) }
-    ensures settled { result ≡ true → Settled A.Arithmetic.operations size.now (memory A.Arithmetic.operations size.now coefficients.old symbols.old) (memory A.Arithmetic.operations size.now coefficients.new symbols.new) (rows size.now) }
-    ensures contradiction { result ≡ false → (x : _) → Solves A.Arithmetic.operations size.now (memory A.Arithmetic.operations size.now coefficients.old symbols.old) x → ⊥ }
-    ensures front { (r : ℕ) → r < size.now.unknowns → SameRow size.now (memory A.Arithmetic.operations size.now coefficients.new symbols.new) (memory A.Arithmetic.operations size.now coefficients.old symbols.old) r }
-    ensures behind { (r : ℕ) → rows size.now ≤ r → SameRow size.now (memory A.Arithmetic.operations size.now coefficients.new symbols.new) (memory A.Arithmetic.operations size.now coefficients.old symbols.old) r }
+    requires among { let old = memory A.operations size.now coefficients.old symbols.old in
+        KeptAmong A.operations size.now old }
+    ensures settled { let old = memory A.operations size.now coefficients.old symbols.old in
+        let new = memory A.operations size.now coefficients.new symbols.new in
+        result ≡ true → Settled A.operations size.now old new (rows size.now) }
+    ensures contradiction { let old = memory A.operations size.now coefficients.old symbols.old in
+        result ≡ false → (x : _) → Solves A.operations size.now old x → ⊥ }
+    ensures front { let old = memory A.operations size.now coefficients.old symbols.old in
+        let new = memory A.operations size.now coefficients.new symbols.new in
+        (r : ℕ) → r < size.now.unknowns → SameRow size.now new old r }
+    ensures behind { let old = memory A.operations size.now coefficients.old symbols.old in
+        let new = memory A.operations size.now coefficients.new symbols.new in
+        (r : ℕ) → rows size.now ≤ r → SameRow size.now new old r }
 {
     for row in size.unknowns()..size.rows() {
         if !settle_row::<A>(size, coefficients, symbols, row) {

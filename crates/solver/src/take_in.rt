@@ -1,5 +1,6 @@
+//! Taking in a batch of equations.
 ghost use Rattle.std.specs.Prelude.{◌≡◌, ℕ, ◌+◌, ◌*◌, ◌<◌, ◌≤◌, length, IfOk, OnErr};
-ghost use Rattle.std.specs.Result.{result_err};
+ghost use Rattle.refusal.specs.Order.{refused_with};
 ghost use Rattle.systems.specs.System.{rows};
 ghost use Rattle.systems.specs.Kept.{Kept, Empty};
 ghost use Rattle.systems.specs.Form.{SameRow};
@@ -21,25 +22,36 @@ use rows::steps::{copy_row, empty_row};
 // Makes all spare rows say nothing.
 fn empty_spare<A: Arithmetic>(size: &Size, coefficients: &mut [A::Coef], symbols: &mut [A::Sym])
     requires room { Room size.now (length coefficients.old) (length symbols.old) }
-    ensures empty { (r : ℕ) → size.now.unknowns ≤ r → r < rows size.now → Empty A.Arithmetic.operations size.now (memory A.Arithmetic.operations size.now coefficients.new symbols.new) r }
-    ensures front { (r : ℕ) → r < size.now.unknowns → SameRow size.now (memory A.Arithmetic.operations size.now coefficients.new symbols.new) (memory A.Arithmetic.operations size.now coefficients.old symbols.old) r }
-    ensures behind { (r : ℕ) → rows size.now ≤ r → SameRow size.now (memory A.Arithmetic.operations size.now coefficients.new symbols.new) (memory A.Arithmetic.operations size.now coefficients.old symbols.old) r }
+    ensures empty { let new = memory A.operations size.now coefficients.new symbols.new in
+        (r : ℕ) → size.now.unknowns ≤ r → r < rows size.now → Empty A.operations size.now new r }
+    ensures front { let old = memory A.operations size.now coefficients.old symbols.old in
+        let new = memory A.operations size.now coefficients.new symbols.new in
+        (r : ℕ) → r < size.now.unknowns → SameRow size.now new old r }
+    ensures behind { let old = memory A.operations size.now coefficients.old symbols.old in
+        let new = memory A.operations size.now coefficients.new symbols.new in
+        (r : ℕ) → rows size.now ≤ r → SameRow size.now new old r }
 {
     for row in size.unknowns()..size.rows() {
         empty_row::<A>(size, coefficients, symbols, row);
     }
 }
 
-// Solves a memory whose spare rows hold equations: they are joined to the rows of the unknowns, or, where they contradict these, given up.
+/// Solves a memory whose spare rows hold equations: they are joined to the rows of the unknowns,
+/// or, where they contradict these, given up.
 pub fn solve<A: Arithmetic>(
     size: &Size,
     coefficients: &mut [A::Coef],
     symbols: &mut [A::Sym],
 ) -> BatchOutcome
     requires room { Room size.now (length coefficients.old) (length symbols.old) }
-    requires among { KeptAmong A.Arithmetic.operations size.now (memory A.Arithmetic.operations size.now coefficients.old symbols.old) }
-    ensures says { SolveSays A.Arithmetic.operations size.now (memory A.Arithmetic.operations size.now coefficients.old symbols.old) (memory A.Arithmetic.operations size.now coefficients.new symbols.new) result }
-    ensures behind { (r : ℕ) → rows size.now ≤ r → SameRow size.now (memory A.Arithmetic.operations size.now coefficients.new symbols.new) (memory A.Arithmetic.operations size.now coefficients.old symbols.old) r }
+    requires among { let old = memory A.operations size.now coefficients.old symbols.old in
+        KeptAmong A.operations size.now old }
+    ensures says { let old = memory A.operations size.now coefficients.old symbols.old in
+        let new = memory A.operations size.now coefficients.new symbols.new in
+        SolveSays A.operations size.now old new result }
+    ensures behind { let old = memory A.operations size.now coefficients.old symbols.old in
+        let new = memory A.operations size.now coefficients.new symbols.new in
+        (r : ℕ) → rows size.now ≤ r → SameRow size.now new old r }
 {
     if !settle::<A>(size, coefficients, symbols) {
         empty_spare::<A>(size, coefficients, symbols);
@@ -59,8 +71,13 @@ fn copy_in<A: Arithmetic>(
 )
     requires room { Room size.now (length coefficients.old) (length symbols.old) }
     requires few { count ≤ size.now.spare }
-    requires equations { (count * size.now.unknowns ≤ length equations.now.coefficients.now) × (count * size.now.symbols ≤ length equations.now.symbols.now) }
-    ensures { CopiedIn size.now count (memory A.Arithmetic.operations size.now equations.now.coefficients.now equations.now.symbols.now) (memory A.Arithmetic.operations size.now coefficients.old symbols.old) (memory A.Arithmetic.operations size.now coefficients.new symbols.new) }
+    requires equations { (count * size.now.unknowns ≤ length equations.now.coefficients.now)
+        × (count * size.now.symbols ≤ length equations.now.symbols.now) }
+    ensures { let lent = equations.now in
+        let given = memory A.operations size.now lent.coefficients.now lent.symbols.now in
+        let old = memory A.operations size.now coefficients.old symbols.old in
+        let new = memory A.operations size.now coefficients.new symbols.new in
+        CopiedIn size.now count given old new }
 {
     for source in 0..count {
         copy_row::<A>(
@@ -74,8 +91,9 @@ fn copy_in<A: Arithmetic>(
     }
 }
 
-// Takes in the first `count` of the given equations: the memory then says what they and its rows say together. Where that leaves no content
-// nothing is changed.
+/// Takes in the first `count` of the given equations: the memory then says what they and its rows
+/// say together. Where that leaves no content nothing is changed. Refuses a count above R (1), and
+/// a memory or equations that are too short (3).
 pub fn take_in<A: Arithmetic>(
     size: &Size,
     coefficients: &mut [A::Coef],
@@ -83,10 +101,18 @@ pub fn take_in<A: Arithmetic>(
     equations: &Equations<A>,
     count: usize,
 ) -> Result<BatchOutcome, Refusal>
-    requires kept { Room size.now (length coefficients.old) (length symbols.old) → Kept A.Arithmetic.operations size.now (memory A.Arithmetic.operations size.now coefficients.old symbols.old) }
-    ensures refusal { result_err result ≡ batch_refusal size.now count (length equations.now.coefficients.now) (length equations.now.symbols.now) (length coefficients.old) (length symbols.old) }
-    ensures unchanged { OnErr result ((coefficients.new ≡ coefficients.old) × (symbols.new ≡ symbols.old)) }
-    ensures says { IfOk result (BatchSays A.Arithmetic.operations size.now count (memory A.Arithmetic.operations size.now equations.now.coefficients.now equations.now.symbols.now) coefficients.old symbols.old coefficients.new symbols.new) }
+    requires kept { let old = memory A.operations size.now coefficients.old symbols.old in
+        Room size.now (length coefficients.old) (length symbols.old)
+        → Kept A.operations size.now old }
+    ensures refusal { refused_with result ≡ batch_refusal size.now count
+        (length equations.now.coefficients.now) (length equations.now.symbols.now)
+        (length coefficients.old) (length symbols.old) }
+    ensures unchanged { OnErr result
+        ((coefficients.new ≡ coefficients.old) × (symbols.new ≡ symbols.old)) }
+    ensures says { let lent = equations.now in
+        let given = memory A.operations size.now lent.coefficients.now lent.symbols.now in
+        IfOk result (BatchSays A.operations size.now count given
+        coefficients.old symbols.old coefficients.new symbols.new) }
     ensures behind { SameBehind size.now coefficients.old coefficients.new symbols.old symbols.new }
 {
     if count > size.spare() {

@@ -1,5 +1,6 @@
+//! The memory at the start.
 ghost use Rattle.std.specs.Prelude.{◌≡◌, ℕ, ◌<◌, ◌≤◌, length, OnErr, OnOk};
-ghost use Rattle.std.specs.Result.{result_err};
+ghost use Rattle.refusal.specs.Order.{refused_with};
 ghost use Rattle.systems.specs.System.{rows};
 ghost use Rattle.systems.specs.Form.{SameRow, AllZero, KeptFormOf, ZeroContent};
 ghost use Rattle.rows.specs.Memory.{memory, Room, SameBehind};
@@ -13,8 +14,11 @@ use rows::steps::{empty_row, write_one};
 // Each unknown's row gives it, as zero.
 fn give_zeros<A: Arithmetic>(size: &Size, coefficients: &mut [A::Coef], symbols: &mut [A::Sym])
     requires room { Room size.now (length coefficients.old) (length symbols.old) }
-    ensures zeros { AllZero A.Arithmetic.operations size.now (memory A.Arithmetic.operations size.now coefficients.new symbols.new) }
-    ensures behind { (r : ℕ) → rows size.now ≤ r → SameRow size.now (memory A.Arithmetic.operations size.now coefficients.new symbols.new) (memory A.Arithmetic.operations size.now coefficients.old symbols.old) r }
+    ensures zeros { let new = memory A.operations size.now coefficients.new symbols.new in
+        AllZero A.operations size.now new }
+    ensures behind { let old = memory A.operations size.now coefficients.old symbols.old in
+        let new = memory A.operations size.now coefficients.new symbols.new in
+        (r : ℕ) → rows size.now ≤ r → SameRow size.now new old r }
 {
     for row in 0..size.rows() {
         empty_row::<A>(size, coefficients, symbols, row);
@@ -24,15 +28,18 @@ fn give_zeros<A: Arithmetic>(size: &Size, coefficients: &mut [A::Coef], symbols:
     }
 }
 
-// Writes the kept form in which every unknown is zero.
+/// Writes the kept form in which every unknown is zero; refuses a memory that is too short (3).
 pub fn write_zero<A: Arithmetic>(
     size: &Size,
     coefficients: &mut [A::Coef],
     symbols: &mut [A::Sym],
 ) -> Result<(), Refusal>
-    ensures refusal { result_err result ≡ memory_refusal size.now (length coefficients.old) (length symbols.old) }
-    ensures unchanged { OnErr result ((coefficients.new ≡ coefficients.old) × (symbols.new ≡ symbols.old)) }
-    ensures form { OnOk result (KeptFormOf A.Arithmetic.operations size.now (memory A.Arithmetic.operations size.now coefficients.new symbols.new) (ZeroContent A.Arithmetic.operations size.now)) }
+    ensures refusal { refused_with result
+        ≡ memory_refusal size.now (length coefficients.old) (length symbols.old) }
+    ensures unchanged { OnErr result
+        ((coefficients.new ≡ coefficients.old) × (symbols.new ≡ symbols.old)) }
+    ensures form { let new = memory A.operations size.now coefficients.new symbols.new in
+        OnOk result (KeptFormOf A.operations size.now new (ZeroContent A.operations size.now)) }
     ensures behind { SameBehind size.now coefficients.old coefficients.new symbols.old symbols.new }
 {
     if size.exceeds(coefficients.len(), symbols.len()) {

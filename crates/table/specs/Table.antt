@@ -1,11 +1,13 @@
 -- A code from a table of bytes. Assumes nothing.
 use Rattle.std.specs.Prelude.{ℕ, ◌+◌, ◌*◌, Bool, cond, not, ◌&&◌, List, Option, ◌==◌, nat_le, nat_lt, slice_index}
-use Rattle.refusal.specs.declared.Refusal.{Refusal}
-use Rattle.refusal.specs.declared.Refusal.TheVariants.{OutsideLimits, OtherLength}
 use Rattle.refusal.specs.Order.{refused, accepted}
 use Rattle.byte.specs.declared.element.Byte.{Byte}
 use Rattle.byte.specs.Field.{byte}
 use Rattle.codes.specs.Shape.{Shape, out_of}
+
+-- the shape of a table for K sub-symbols, P parities and ages up to M
+abbrev pub table_shape : ℕ → ℕ → ℕ → Shape
+table_shape k p m = record { sources = k; parities = p; memory = m }
 
 -- a byte for each parity, age from 0 to M and sub-symbol
 abbrev pub table_size : Shape → ℕ
@@ -23,9 +25,9 @@ abbrev pub table_coefficients : Shape → List ℕ → ℕ → ℕ → ℕ → B
 table_coefficients x bytes j a k = cond (inside x j a k) (byte (slice_index bytes (place x j a k))) (byte 0)
 
 -- K 1 to 8, P 1 to 4, M 0 to 63, and the length that these three ask for
-abbrev pub table_refusal : Shape → ℕ → Option Refusal
+abbrev pub table_refusal : Shape → ℕ → Option ℕ
 table_refusal x size =
-    refused (out_of 1 8 x.sources) OutsideLimits
-    (refused (out_of 1 4 x.parities) OutsideLimits
-    (refused (nat_lt 63 x.memory) OutsideLimits
-    (refused (not (size == table_size x)) OtherLength accepted)))
+    refused (out_of 1 8 x.sources) 1
+    (refused (out_of 1 4 x.parities) 1
+    (refused (nat_lt 63 x.memory) 1
+    (refused (not (size == table_size x)) 4 accepted)))

@@ -1,4 +1,5 @@
-ghost use Rattle.table.specs.Table.{table_coefficients};
+//! What a table of coefficients means as a code.
+ghost use Rattle.table.specs.Table.{table_shape, table_coefficients};
 ghost use Rattle.table.specs.Bounded.{table_bounded};
 
 use crate::coefficients::CoefficientTable;
@@ -7,11 +8,13 @@ use byte::Byte;
 use codes::code::Code;
 
 impl Code<Byte> for CoefficientTable {
-    ghost shape = { λ t. record { sources = t.sources; parities = t.parities; memory = t.memory } };
+    ghost shape = { λ t. table_shape t.sources t.parities t.memory };
 
-    ghost coefficients = { λ t. table_coefficients (record { sources = t.sources; parities = t.parities; memory = t.memory }) t.bytes.items };
+    ghost coefficients = { λ t.
+        table_coefficients (table_shape t.sources t.parities t.memory) t.bytes.items };
 
-    ghost bounded = { λ t. table_bounded (record { sources = t.sources; parities = t.parities; memory = t.memory }) t.bytes.items };
+    ghost bounded = { λ t.
+        table_bounded (table_shape t.sources t.parities t.memory) t.bytes.items };
 
     fn sources(&self) -> u32 {
         self.sources.value()

@@ -1,14 +1,15 @@
+//! Tables of coefficients, and their making.
 ghost use Rattle.std.specs.Prelude.{◌≡◌, ◌+◌, ◌*◌, IfOk, vec_len};
-ghost use Rattle.std.specs.Result.{result_err};
-ghost use Rattle.table.specs.Table.{table_refusal};
+ghost use Rattle.refusal.specs.Order.{refused_with};
+ghost use Rattle.table.specs.Table.{table_shape, table_refusal};
 
 use codes::limits::{Parities, Ranged, Sources};
 use refusal::Refusal;
 
-// How many slots back a table may reach, M.
+/// How many slots back a table may reach, M.
 pub type Memory = Ranged<0, 63>;
 
-// A code whose coefficients were handed in, byte by byte.
+/// A code whose coefficients were handed in, byte by byte. It owns its bytes.
 #[derive(Drop)]
 pub struct CoefficientTable {
     pub(crate) sources: Sources,
@@ -19,15 +20,19 @@ pub struct CoefficientTable {
 }
 
 impl CoefficientTable {
-    // The byte at (j * (M + 1) + a) * K + k is what parity j scales sub-symbol k of the packet a slots ago by.
+    /// The code whose coefficients these bytes are: the byte at (j * (M + 1) + a) * K + k is what parity j scales sub-symbol k
+    /// of the packet a slots ago by. Refuses K outside 1 to 8, P outside 1 to 4 and M outside 0 to 63 (1), and another number of
+    /// bytes than P * (M + 1) * K (4); the bytes are then let go.
     pub fn new(
         sources: u32,
         parities: u32,
         memory: u32,
         bytes: Vec<u8>,
     ) -> Result<CoefficientTable, Refusal>
-        ensures refusal { result_err result ≡ table_refusal (record { sources = sources; parities = parities; memory = memory }) (vec_len bytes) }
-        ensures made { IfOk result (λ t. (t.sources ≡ sources) × (t.parities ≡ parities) × (t.memory ≡ memory) × (t.bytes.items ≡ bytes.items)) }
+        ensures refusal { refused_with result
+            ≡ table_refusal (table_shape sources parities memory) (vec_len bytes) }
+        ensures made { IfOk result (λ t. (t.sources ≡ sources) × (t.parities ≡ parities)
+            × (t.memory ≡ memory) × (t.bytes.items ≡ bytes.items)) }
     {
         let sources = Sources::new(sources)?;
         let parities = Parities::new(parities)?;

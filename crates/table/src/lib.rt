@@ -1,4 +1,4 @@
-// Codes from a table of coefficients, for byte arithmetic.
+//! Codes from a table of coefficients, for byte arithmetic.
 #![tactic(auto)]
 
 pub mod code;

@@ -1,9 +1,8 @@
-use Rattle.std.proofs.Common.{◌≡◌, ℕ, ◌<◌, List, [], length, get_or, Some, Ok, Err, sym, ap, ◌∙◌, subst, arith}
+use Rattle.std.proofs.Common.{◌≡◌, ℕ, ◌<◌, List, [], length, get_or, Ok, Err, sym, ap, ◌∙◌, subst, arith}
 use Rattle.std.specs.Simd.{first_chunks}
 use Rattle.std.proofs.lemmas.Result.{err_from_is_err_and}
 use Rattle.layout.specs.declared.fault.FrameFault.{FrameFault}
-use Rattle.layout.specs.declared.fault.FrameFault.TheVariants.{EndsEarly}
-use Rattle.layout.specs.Faults.{frame_fault}
+use Rattle.layout.specs.FaultNumber.{fault_of}
 use Rattle.layout.specs.Words.{word_in}
 use Rattle.layout.proofs.Chunks.{word_of_chunk}
 use Rattle.layout.proofs.Framed.{framed}
@@ -24,8 +23,8 @@ returns-in_err-next c =
     let fault = c.in_err-next.field-0.0 in
     let left = err_from_is_err_and c.from_residual.result c.from_residual.ensures.1 in
     let is : c.from_residual.result ≡ Err fault = left.1 ∙ ap (λ (f : FrameFault). Err f) left.2 in
-    let found = faulty bs i c.loop-i.expected _ c.loop-i.invariant (omega arith) word fault c.in_err-next.ensures.fault in
-    rw is record { fault = sym found; framed = tt; exactly = no_frame bs _ fault found }
+    let found = faulty bs i c.loop-i.expected _ c.loop-i.invariant (omega arith) word (fault_of fault) c.in_err-next.ensures.fault in
+    rw is record { fault = sym found; framed = tt; exactly = no_frame bs _ (fault_of fault) found }
 
 pub returns-in-Break : goal.returns-in-Break
 returns-in-Break c =
@@ -55,6 +54,5 @@ returns c =
     let bs = c.args.bytes.now in
     let n = length c.as_chunks.result.0.now in
     let end : c.loop-i.i ≡ n = omega arith in
-    let found : frame_fault bs ≡ Some (EndsEarly n) =
-    missing bs n c.loop-i.expected (subst (λ m. Reached bs m c.loop-i.expected) end c.loop-i.invariant) (omega arith) in
-    record { fault = sym found; framed = tt; exactly = no_frame bs _ (EndsEarly n) found }
+    let found = missing bs n c.loop-i.expected (subst (λ m. Reached bs m c.loop-i.expected) end c.loop-i.invariant) (omega arith) in
+    record { fault = sym found; framed = tt; exactly = no_frame bs _ _ found }
