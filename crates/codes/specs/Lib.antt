@@ -1,4 +1,5 @@
 pub mod Shape
 pub mod Coefficients
+pub mod Link
 pub mod Parity
 pub mod Bounded

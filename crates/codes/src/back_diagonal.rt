@@ -1,7 +1,6 @@
+//! The back diagonal.
 ghost use Rattle.std.specs.Prelude.{◌≡◌, IfOk};
-ghost use Rattle.std.specs.Result.{result_err};
-ghost use Rattle.refusal.specs.Order.{refused, accepted};
-ghost use Rattle.refusal.specs.declared.Refusal.TheVariants.{OutsideLimits};
+ghost use Rattle.refusal.specs.Order.{refused, accepted, refused_with};
 ghost use Rattle.codes.specs.Shape.{out_of};
 ghost use Rattle.codes.specs.Coefficients.{back_shape, back_coefficients};
 ghost use Rattle.codes.specs.Bounded.{back_bounded};
@@ -12,7 +11,7 @@ use crate::step::Step;
 use arithmetic::field::Field;
 use refusal::Refusal;
 
-// Sub-symbol k goes into the parity k + 1 steps later.
+/// Sub-symbol k goes into the parity k + 1 steps later.
 #[derive(Clone, Copy)]
 pub struct BackDiagonal {
     width: Sources,
@@ -20,14 +19,15 @@ pub struct BackDiagonal {
 }
 
 impl BackDiagonal {
-    // Refuses a width that is not 1 to 8.
+    /// The back diagonal of this width and step; refuses a width that is not 1 to 8 (1).
     pub fn new(width: u32, step: Step) -> Result<BackDiagonal, Refusal>
-        ensures refusal { result_err result ≡ refused (out_of 1 8 width) OutsideLimits accepted }
+        ensures refusal { refused_with result ≡ refused (out_of 1 8 width) 1 accepted }
         ensures made { IfOk result (λ d. (d.width ≡ width) × (d.step ≡ step)) }
     {
         Ok(BackDiagonal::of(Sources::new(width)?, step))
     }
 
+    /// The back diagonal of this width and step.
     pub fn of(width: Sources, step: Step) -> BackDiagonal
         ensures width { result.width ≡ width }
         ensures step { result.step ≡ step }

@@ -1,4 +1,4 @@
-// Codes: which earlier sub-symbols each parity of a block adds up.
+//! Codes: which earlier sub-symbols each parity of a block adds up.
 #![tactic(auto)]
 
 pub mod back_diagonal;

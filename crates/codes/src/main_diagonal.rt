@@ -1,7 +1,6 @@
+//! The main diagonal.
 ghost use Rattle.std.specs.Prelude.{◌≡◌, IfOk};
-ghost use Rattle.std.specs.Result.{result_err};
-ghost use Rattle.refusal.specs.Order.{refused, accepted};
-ghost use Rattle.refusal.specs.declared.Refusal.TheVariants.{OutsideLimits};
+ghost use Rattle.refusal.specs.Order.{refused, accepted, refused_with};
 ghost use Rattle.codes.specs.Shape.{out_of};
 ghost use Rattle.codes.specs.Coefficients.{main_shape, main_coefficients};
 ghost use Rattle.codes.specs.Bounded.{main_bounded};
@@ -11,21 +10,22 @@ use crate::limits::Sources;
 use arithmetic::field::Field;
 use refusal::Refusal;
 
-// Sub-symbol k of a packet of m goes into the parity m - k slots later.
+/// Sub-symbol k of a packet of m goes into the parity m - k slots later.
 #[derive(Clone, Copy)]
 pub struct MainDiagonal {
     width: Sources,
 }
 
 impl MainDiagonal {
-    // Refuses a width that is not 1 to 8.
+    /// The main diagonal of this width; refuses one that is not 1 to 8 (1).
     pub fn new(width: u32) -> Result<MainDiagonal, Refusal>
-        ensures refusal { result_err result ≡ refused (out_of 1 8 width) OutsideLimits accepted }
+        ensures refusal { refused_with result ≡ refused (out_of 1 8 width) 1 accepted }
         ensures made { IfOk result (λ d. d.width ≡ width) }
     {
         Ok(MainDiagonal::of(Sources::new(width)?))
     }
 
+    /// The main diagonal of this width.
     pub fn of(width: Sources) -> MainDiagonal
         ensures { result.width ≡ width }
     {

@@ -1,3 +1,4 @@
+//! Two codes on top of each other.
 ghost use Rattle.std.specs.Prelude.{◌≡◌};
 ghost use Rattle.codes.specs.Coefficients.{overlay_shape, overlay};
 ghost use Rattle.codes.specs.Bounded.{overlay_bounded};
@@ -5,23 +6,27 @@ ghost use Rattle.codes.specs.Bounded.{overlay_bounded};
 use crate::code::Code;
 use arithmetic::field::Field;
 
-// Two codes added up, the second delayed.
+/// Two codes added up, the second delayed by so many slots.
 #[derive(Clone, Copy)]
 pub struct Overlay<X, Y> {
+    /// The code whose coefficients stand at their own ages.
     pub first: X,
+    /// The code whose coefficients stand at ages later by the delay.
     pub second: Y,
+    /// The delay in slots.
     pub delay: u32,
 }
 
 impl<F: Field, X: Code<F>, Y: Code<F>> Code<F> for Overlay<X, Y> {
-    ghost shape = { λ c. overlay_shape (X.Code.shape c.first) (Y.Code.shape c.second) c.delay };
+    ghost shape = { λ c. overlay_shape (X.shape c.first) (Y.shape c.second) c.delay };
 
-    ghost coefficients = { λ c. overlay F.Sum.sum (X.Code.coefficients c.first) (Y.Code.coefficients c.second) c.delay };
+    ghost coefficients = { λ c.
+        overlay F.Sum.sum (X.coefficients c.first) (Y.coefficients c.second) c.delay };
 
     ghost bounded = { λ code.
-        overlay_bounded F.Sum.sum F.Sum.sums (X.Code.shape code.first) (Y.Code.shape code.second)
-        (X.Code.coefficients code.first) (Y.Code.coefficients code.second) code.delay
-        (X.Code.bounded code.first) (Y.Code.bounded code.second) };
+        overlay_bounded F.Sum.sum F.Sum.sums (X.shape code.first) (Y.shape code.second)
+        (X.coefficients code.first) (Y.coefficients code.second) code.delay
+        (X.bounded code.first) (Y.bounded code.second) };
 
     fn sources(&self) -> u32 {
         self.first.sources().max(self.second.sources())

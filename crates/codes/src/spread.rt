@@ -1,3 +1,4 @@
+//! A code with its ages spread out.
 ghost use Rattle.std.specs.Prelude.{◌≡◌};
 ghost use Rattle.codes.specs.Coefficients.{spread_shape, spread};
 ghost use Rattle.codes.specs.Bounded.{spread_bounded};
@@ -6,21 +7,23 @@ use crate::code::Code;
 use crate::step::Step;
 use arithmetic::field::Field;
 
-// A code with its ages spread out: B codes side by side, each on every B-th slot.
+/// A code with its ages spread out: B codes side by side, each on every B-th slot.
 #[derive(Clone, Copy)]
 pub struct Spread<X> {
+    /// The code that is spread.
     pub code: X,
+    /// The factor by which its ages are spread.
     pub step: Step,
 }
 
 impl<F: Field, X: Code<F>> Code<F> for Spread<X> {
-    ghost shape = { λ c. spread_shape (X.Code.shape c.code) c.step.value };
+    ghost shape = { λ c. spread_shape (X.shape c.code) c.step.value };
 
-    ghost coefficients = { λ c. spread F.Sum.sum (X.Code.coefficients c.code) c.step.value };
+    ghost coefficients = { λ c. spread F.Sum.sum (X.coefficients c.code) c.step.value };
 
     ghost bounded = { λ code.
-        spread_bounded F.Sum.sum (X.Code.shape code.code) (X.Code.coefficients code.code) code.step.value
-        (X.Code.bounded code.code) };
+        spread_bounded F.Sum.sum (X.shape code.code) (X.coefficients code.code) code.step.value
+        (X.bounded code.code) };
 
     fn sources(&self) -> u32 {
         self.code.sources()

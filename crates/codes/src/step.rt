@@ -1,12 +1,12 @@
+//! Steps, in slots.
 ghost use Rattle.std.specs.Prelude.{◌≡◌, ◌≤◌, IfOk, ◌==◌};
-ghost use Rattle.std.specs.Result.{result_err};
-ghost use Rattle.refusal.specs.Order.{refused, accepted};
-ghost use Rattle.refusal.specs.declared.Refusal.TheVariants.{OutsideLimits};
+ghost use Rattle.refusal.specs.Order.{refused, accepted, refused_with};
 
 use crate::limits::Ranged;
 use refusal::Refusal;
 
-// A number of slots to go by, never none: what divides by it needs no test. A plain type with its own field, by a rule of this project (docs/DECISIONS.md).
+// A plain type with its own field, by a rule of this project (docs/DECISIONS.md).
+/// A number of slots to go by, never none: what divides by it needs no test.
 #[derive(Clone, Copy)]
 pub struct Step {
     value: u32,
@@ -14,9 +14,9 @@ pub struct Step {
 }
 
 impl Step {
-    // Refuses 0.
+    /// The step of so many slots; refuses 0 (1).
     pub fn new(value: u32) -> Result<Step, Refusal>
-        ensures refusal { result_err result ≡ refused (value == 0) OutsideLimits accepted }
+        ensures refusal { refused_with result ≡ refused (value == 0) 1 accepted }
         ensures made { IfOk result (λ s. s.value ≡ value) }
     {
         if value == 0 {
@@ -25,6 +25,7 @@ impl Step {
         Ok(Step { value })
     }
 
+    /// The slots.
     pub fn slots(self) -> u32
         ensures { result ≡ self.value }
     {

@@ -1,0 +1,3 @@
+pub mod Looking
+pub mod Putting
+pub mod Blocks

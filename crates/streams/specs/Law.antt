@@ -1,0 +1,11 @@
+-- A block in each slot. Assumes nothing.
+use Rattle.std.specs.Prelude.{◌≡◌, ℕ, ◌+◌, List}
+use Rattle.codes.specs.Link.{Link}
+use Rattle.streams.specs.Streams.{Stream, Sends, SamePackets}
+
+-- a stream would have sent just one block in each slot, which no packet behind that slot decides
+pub record StreamLaw {F S : Type 0} (link : Link F S) : Type 0 where
+  pub some : (stream : Stream S) (t : ℕ) → (block : List S) × Sends link stream t block
+  pub one : (stream : Stream S) (t : ℕ) (block other : List S) → Sends link stream t block → Sends link stream t other → block ≡ other
+  pub front : (stream other : Stream S) (t : ℕ) (block : List S) → SamePackets link (t + 1) stream other
+      → Sends link stream t block → Sends link other t block

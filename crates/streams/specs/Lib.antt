@@ -1,0 +1,3 @@
+pub mod Streams
+pub mod Logs
+pub mod Law

@@ -1,0 +1,2 @@
+pub mod Window
+pub mod Law
