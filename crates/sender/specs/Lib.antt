@@ -1,2 +1,5 @@
+pub mod State
 pub mod Block
 pub mod Limits
+pub mod Sending
+pub mod Runs

@@ -1,3 +1,4 @@
+//! The packets that were sent last.
 ghost use Rattle.std.specs.Prelude.{◌≡◌, ◌≤◌, ◌⊎◌, ◌++◌, length, drop};
 
 // The oldest packet goes, the new one comes behind the youngest.

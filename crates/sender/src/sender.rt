@@ -1,10 +1,10 @@
-ghost use Rattle.std.specs.Prelude.{◌≡◌, ◌+◌, ◌≤◌, false, length, IfOk, OnErr, OnOk};
-ghost use Rattle.std.specs.Result.{result_err};
-ghost use Rattle.fills.specs.Over.{written_over};
-ghost use Rattle.codes.specs.Shape.{unfit, packet_size, block_size};
-ghost use Rattle.sender.specs.Block.{history_size, block_of, block_shape, history_after};
+//! The sender.
+ghost use Rattle.std.specs.Prelude.{◌≡◌, ◌≤◌, false};
+ghost use Rattle.codes.specs.Shape.{packet_size, block_size, unfit as unfit_spec};
+ghost use Rattle.codes.specs.Link.{link_of};
 ghost use Rattle.layout.specs.Layout.{outside_shape};
-ghost use Rattle.sender.specs.Limits.{making_refusal, send_refusal};
+ghost use Rattle.sender.specs.Block.{history_size, block_shape};
+ghost use Rattle.sender.specs.Sending.{lent, MakeSays, SendSays};
 
 use crate::history::advance;
 use crate::window::Window;
@@ -14,24 +14,35 @@ use codes::limits::Symbols;
 use codes::link::{LAST_SLOT, unfit};
 use layout::head::BlockShape;
 use refusal::Refusal;
-use std::marker::PhantomData;
+use std::marker::{Model, PhantomData};
 
-// The sending end of one link: its code, the symbols of a sub-symbol, and the slot that comes next.
+/// The sending end of one link: its code, the symbols of a sub-symbol, and the slot that comes next.
 #[derive(Drop)]
 pub struct Sender<A: Arithmetic, C: Code<A::Coef>> {
     arithmetic: PhantomData<A>,
     code: C,
     symbols: Symbols,
     next: u32,
-    ghost fit: { unfit (C.Code.shape code) ≡ false },
-    ghost ok: { next ≤ 268435456 },
+}
+
+impl<A: Arithmetic, C: Code<A::Coef>> Model for Sender<A, C> {
+    ghost use Rattle.std.specs.Prelude.{◌≡◌, ◌≤◌, false};
+    ghost use Rattle.codes.specs.Shape.{unfit};
+    ghost use Rattle.sender.specs.State.{SenderState};
+
+    ghost Value = { SenderState C };
+
+    ghost view = { λ s. record { code = s.code; symbols = s.symbols; next = s.next } };
+
+    // A link can carry its code, and the slot behind the last one is the last that can come next.
+    ghost invariant = { λ s. (unfit (C.shape s.code) ≡ false) × (s.next ≤ 268435456) };
 }
 
 impl<A: Arithmetic, C: Code<A::Coef> + Drop> Sender<A, C> {
-    // A sender for this code and so many symbols to a sub-symbol, at slot 0.
+    /// A sender for this code and so many symbols to a sub-symbol, at slot 0. Refuses symbols that are not 1 to 32 (1), and a code
+    /// that a link cannot carry (2).
     pub fn new(code: C, symbols: u32) -> Result<Sender<A, C>, Refusal>
-        ensures refusal { result_err result ≡ making_refusal (C.Code.shape code) symbols }
-        ensures made { IfOk result (λ s. (s.code ≡ code) × (s.symbols ≡ symbols) × (s.next ≡ 0)) }
+        ensures { MakeSays (link_of A.operations C.shape C.coefficients) code symbols result }
     {
         let symbols = Symbols::new(symbols)?;
         if unfit::<A::Coef, C>(&code) {
@@ -45,39 +56,41 @@ impl<A: Arithmetic, C: Code<A::Coef> + Drop> Sender<A, C> {
         })
     }
 
-    // The slot that `send` takes next.
+    /// The slot that `send` takes next.
     pub fn next_slot(&self) -> u32
-        ensures { result ≡ self.now.next }
+        ensures value { result ≡ self.now.next }
+        ensures bound { result ≤ 268435456 }
     {
         self.next
     }
 
-    // The symbols of a packet.
+    /// The symbols of a packet.
     pub fn packet_size(&self) -> usize
-        ensures value { result ≡ packet_size (C.Code.shape self.now.code) self.now.symbols }
+        ensures value { result ≡ packet_size (C.shape self.now.code) self.now.symbols }
         ensures bound { result ≤ 256 }
     {
         self.code.sources() as usize * self.symbols.value() as usize
     }
 
-    // The symbols of the history: it holds as many packets as the code's memory says.
+    /// The symbols of the history: it holds as many packets as the code's memory says.
     pub fn history_size(&self) -> usize
-        ensures { result ≡ history_size (C.Code.shape self.now.code) self.now.symbols }
+        ensures { result ≡ history_size (C.shape self.now.code) self.now.symbols }
     {
         self.code.memory() as usize * self.packet_size()
     }
 
-    // The symbols of a block: a packet and its parities.
+    /// The symbols of a block: a packet and its parities.
     pub fn block_size(&self) -> usize
-        ensures { result ≡ block_size (C.Code.shape self.now.code) self.now.symbols }
+        ensures { result ≡ block_size (C.shape self.now.code) self.now.symbols }
     {
         self.packet_size() + self.code.parities() as usize * self.symbols.value() as usize
     }
 
-    // How a block is made up, as its frame says it.
+    /// How a block is made up, as its frame says it.
     pub fn block_shape(&self) -> BlockShape
-        ensures value { result ≡ block_shape (C.Code.shape self.now.code) self.now.symbols }
+        ensures value { result ≡ block_shape (C.shape self.now.code) self.now.symbols }
         ensures limits { outside_shape result ≡ false }
+        ensures fit { unfit_spec (C.shape self.now.code) ≡ false }
     {
         BlockShape {
             sources: self.code.sources(),
@@ -86,8 +99,10 @@ impl<A: Arithmetic, C: Code<A::Coef> + Drop> Sender<A, C> {
         }
     }
 
-    // Sends the packet of this slot, which must be the next one: the block goes to the output, and the history,
-    // which holds the last packets, oldest first, takes the new one in.
+    /// Sends the packet of this slot, which must be the next one: the block goes to the output's front, and the history, which
+    /// holds the last packets, oldest first, takes the new one in. Refuses a slot behind the last one of a link (1), a history
+    /// that is too short (3), a packet of another length (4), an output that is too short (5), and a slot below (11) or above
+    /// (12) the next one. A refused send changes nothing.
     pub fn send(
         &mut self,
         slot: u32,
@@ -95,11 +110,11 @@ impl<A: Arithmetic, C: Code<A::Coef> + Drop> Sender<A, C> {
         history: &mut [A::Sym],
         out: &mut [A::Sym],
     ) -> Result<(), Refusal>
-        ensures refusal { result_err result ≡ send_refusal (C.Code.shape self.old.code) self.old.symbols self.old.next slot (length history.old) (length packet.now) (length out.old) }
-        ensures kept { OnErr result ((self.new ≡ self.old) × (history.new ≡ history.old) × (out.new ≡ out.old)) }
-        ensures code { OnOk result ((self.new.code ≡ self.old.code) × (self.new.symbols ≡ self.old.symbols) × (self.new.next ≡ self.old.next + 1)) }
-        ensures block { OnOk result (out.new ≡ written_over (block_of A.Arithmetic.operations (C.Code.shape self.old.code) (C.Code.coefficients self.old.code) self.old.symbols history.old packet.now) out.old) }
-        ensures history { OnOk result (history.new ≡ history_after (C.Code.shape self.old.code) self.old.symbols history.old packet.now) }
+        ensures { let sender = self.old in
+            let link = link_of A.operations C.shape C.coefficients sender.code sender.symbols in
+            let old = lent self.old history.old out.old in
+            let new = lent self.new history.new out.new in
+            SendSays link slot packet.now old new result }
     {
         if slot > LAST_SLOT {
             return Err(Refusal::OutsideLimits);

@@ -1,0 +1,3 @@
+mod Places
+pub mod Streams
+pub mod Runs
