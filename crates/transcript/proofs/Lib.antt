@@ -1,2 +1,3 @@
 pub mod LineForm
 pub mod Turns
+pub mod Starting

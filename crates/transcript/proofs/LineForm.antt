@@ -1,10 +1,9 @@
 -- How long the text of a packet is, and so which lines are refused for their length. Assumes nothing.
 use Rattle.std.proofs.Common.{◌≡◌, ℕ, ◌*◌, ◌<◌, ◌≤◌, List, [], ◌∷◌, length, Some, None, sym, refl, ap, ◌∙◌, mul-zero, mul-suc, arith, rules, tests, length-append}
 use Rattle.std.proofs.Math.Nat.{eq_of_mul-eq-mul_left}
-use Rattle.refusal.specs.declared.Refusal.TheVariants.{OtherLength}
 use Rattle.linktext.specs.PlanLine.{longest}
 use Rattle.codes.specs.Shape.{last_slot}
-use Rattle.transcript.specs.Sending.{line_refusal}
+use Rattle.transcript.specs.Lines.{line_refusal}
 use Rattle.std.specs.List.{flat_map}
 use Rattle.arithmetic.specs.Laws.{ByteLaws}
 use Rattle.arithmetic.specs.Operations.{Bytes}
@@ -29,7 +28,7 @@ module _ {S : Type 0} (b : Bytes S) (laws : ByteLaws b) (size slot : ℕ) (line 
   long : length line ≡ 2 * b.width * length xs
   long = ap length (sym text) ∙ length_packet b laws xs
 
-  pub line_other : (length xs ≡ size → ⊥) → line_refusal b.width size slot line ≡ Some OtherLength
+  pub line_other : (length xs ≡ size → ⊥) → line_refusal b.width size slot line ≡ Some 4
   line_other other =
       let some : 0 < 2 * b.width = omega (arith, laws.widths) in
       let differs : length line ≡ 2 * b.width * size → ⊥ = λ e. other (eq_of_mul-eq-mul_left (2 * b.width) some (length xs) size (sym long ∙ e)) in

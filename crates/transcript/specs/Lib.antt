@@ -1,3 +1,4 @@
-pub mod Sending
+pub mod Lines
+pub mod Printed
 pub mod Steps
 pub mod Transcript

@@ -1,4 +1,4 @@
-// What linksend prints for a link's text: the plan, and slot by slot what goes on air.
+//! What linksend prints for a link's text: the plan, and slot by slot what goes on air.
 #![tactic(auto)]
 
 mod lines;

@@ -1,3 +1,4 @@
+//! The lines of a text.
 ghost use Rattle.std.specs.Prelude.{◌≡◌};
 ghost use Rattle.std.specs.Iterator.{YieldsFirstRef, item_count};
 ghost use Rattle.linktext.specs.Fields.{lines_of};

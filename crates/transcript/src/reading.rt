@@ -1,4 +1,5 @@
-ghost use Rattle.transcript.specs.Sending.{LineReads};
+//! The packet of a line.
+ghost use Rattle.transcript.specs.Lines.{LineReads};
 
 use arithmetic::arithmetic::Arithmetic;
 use codes::link::LAST_SLOT;
@@ -15,7 +16,7 @@ pub(crate) fn read_line<A: Arithmetic>(
     slot: u32,
     size: usize,
 ) -> Result<Vec<A::Sym>, ReadError>
-    ensures { LineReads A.Arithmetic.bytes size slot line.now result }
+    ensures { LineReads A.bytes size slot line.now result }
 {
     if line.len() > LONGEST_LINE {
         return Err(Refusal::BrokenLine.into());

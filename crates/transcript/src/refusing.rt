@@ -1,3 +1,4 @@
+//! How a run ends that a refusal breaks off.
 ghost use Rattle.std.specs.Prelude.{◌≡◌, [], ◌∷◌, ◌++◌, IfOk, string_bytes};
 ghost use Rattle.linktext.specs.Lines.{text_of_refusal};
 ghost use Rattle.transcript.specs.Steps.{Ends};
@@ -14,7 +15,8 @@ pub(crate) fn with_refusal(
     why: Refusal,
     number: u64,
 ) -> Result<String, AllocError>
-    ensures { IfOk result (λ s. string_bytes s ≡ string_bytes out ++ (text_of_refusal why number ++ (10 ∷ []))) }
+    ensures { let line = text_of_refusal why number ++ (10 ∷ []) in
+        IfOk result (λ s. string_bytes s ≡ string_bytes out ++ line) }
 {
     let words = refusal_text(heap, why, number)?;
     writeln!(out, "{words}")?;

@@ -1,6 +1,9 @@
+//! A link's whole text.
 ghost use Rattle.std.specs.Prelude.{◌≡◌, [], ◌∷◌, ◌++◌, IfOk, string_bytes};
+ghost use Rattle.plan.specs.Codes.{plan_link};
 ghost use Rattle.linktext.specs.Fields.{lines_of};
-ghost use Rattle.transcript.specs.Transcript.{SentBy, SentIn, Transcript as TranscriptOf, heading};
+ghost use Rattle.transcript.specs.Printed.{Printed};
+ghost use Rattle.transcript.specs.Transcript.{PrintedIn, Transcript as TranscriptOf, heading};
 
 use crate::lines::Lines;
 use crate::link::Link;
@@ -17,7 +20,7 @@ use word::WordArithmetic;
 
 // The two lines on the plan.
 fn plan_heading(heap: Global, plan: &Plan) -> Result<String, AllocError>
-    ensures { IfOk result (λ s. string_bytes s ≡ heading plan.now.burst plan.now.width plan.now.stretch plan.now.symbols plan.now.arithmetic) }
+    ensures { IfOk result (λ s. string_bytes s ≡ heading plan.now) }
 {
     let handed_in = plan_text(heap, plan)?;
     let follows = shape_text::<Byte>(heap, plan)?;
@@ -30,7 +33,9 @@ fn send_packets<A: Arithmetic>(
     plan: &Plan,
     lines: Lines<'_>,
 ) -> Result<String, AllocError>
-    ensures { IfOk result (λ s. SentBy A.Arithmetic.operations A.Arithmetic.bytes plan.now.burst plan.now.width plan.now.stretch plan.now.symbols (lines_of lines.entry.rest.now) (string_bytes s)) }
+    ensures { let lines = lines_of lines.entry.rest.now in
+        let link = plan_link A.operations plan.now in
+        IfOk result (λ s. Printed link A.bytes lines (string_bytes s)) }
 {
     let sender = Sender::<A, PlanCode>::new(plan.code(), plan.symbols()).unwrap();
     Link::<A, PlanCode>::new(heap, sender)?.answer_lines(lines)
@@ -38,7 +43,8 @@ fn send_packets<A: Arithmetic>(
 
 // The packets, sent in the arithmetic that the plan names: the same call at another type.
 fn send_in(heap: Global, plan: &Plan, lines: Lines<'_>) -> Result<String, AllocError>
-    ensures { IfOk result (λ s. SentIn plan.now.arithmetic plan.now.burst plan.now.width plan.now.stretch plan.now.symbols (lines_of lines.entry.rest.now) (string_bytes s)) }
+    ensures { let lines = lines_of lines.entry.rest.now in
+        IfOk result (λ s. PrintedIn plan.now.arithmetic plan.now lines (string_bytes s)) }
 {
     match plan.arithmetic() {
         ArithmeticName::Word => send_packets::<WordArithmetic>(heap, plan, lines),
@@ -46,7 +52,8 @@ fn send_in(heap: Global, plan: &Plan, lines: Lines<'_>) -> Result<String, AllocE
     }
 }
 
-// What is printed for a link's text: the plan, and slot by slot each packet with its parities and its frame, which is read back.
+/// What is printed for a link's text: the plan, and slot by slot what the stream of the text's packets sends, each packet with its
+/// parities and its frame, up to the end or the first line that is refused. An error says that memory ran out.
 pub fn transcript(heap: Global, text: &[u8]) -> Result<String, AllocError>
     ensures { IfOk result (λ s. TranscriptOf (lines_of text.now) (string_bytes s)) }
 {

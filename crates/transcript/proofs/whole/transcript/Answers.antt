@@ -47,5 +47,5 @@ returns c =
           let read = rw c.in-Ok.is at x.1.1.0 in
           let says = rw c.in-Ok.is at x.1.1.1 in
           rw (lines, c.in_ok-push_str.ensures.bytes, c.as_str.ensures.value, c.in_ok-out.ensures)
-          (planned (string_bytes c.in_ok-send_in.field-0) plan.burst plan.width plan.stretch plan.symbols plan.arithmetic (sym read) says c.in_ok-send_in.ensures)
+          (planned (string_bytes c.in_ok-send_in.field-0) plan (sym read) says c.in_ok-send_in.ensures)
     ]
