@@ -1,6 +1,7 @@
 -- Where things lie in a history. Assumes nothing.
-use Rattle.std.proofs.Common.{◌≡◌, ℕ, ◌+◌, ◌*◌, ◌<◌, ap, add-mul, one-mul, mul_assoc, arith}
+use Rattle.std.proofs.Common.{◌≡◌, ℕ, ◌+◌, ◌*◌, ◌<◌, ap, add-mul, mul_assoc, arith}
 use Rattle.codes.proofs.Places.{below}
+use Rattle.streams.proofs.Places.{a_packet_on}
 
 -- symbol i of sub-symbol k of packet v lies in a history of m packets of s sub-symbols of l symbols
 pub in_history : (m s l v k i : ℕ) → v < m → k < s → i < l → (v * s + k) * l + i < m * (s * l)
@@ -11,7 +12,6 @@ in_history m s l v k i lv lk li =
 -- a packet on
 pub packet_on : (s l v k i : ℕ) → s * l + ((v * s + k) * l + i) ≡ ((v + 1) * s + k) * l + i
 packet_on s l v k i =
-    let up : v * s + k + s ≡ (v + 1) * s + k = omega (arith, add-mul v 1 s, one-mul s) in
-    let rows = ap (λ (n : ℕ). n * l) up in
+    let rows = ap (λ (n : ℕ). n * l) (a_packet_on v k s) in
     let parts = add-mul (v * s + k) s l in
     omega arith

@@ -1,3 +1,4 @@
+pub mod Places
 pub mod Looking
 pub mod Putting
 pub mod Blocks

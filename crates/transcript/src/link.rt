@@ -53,7 +53,8 @@ impl<A: Arithmetic, C: Code<A::Coef> + Drop> Link<A, C> {
         requires { let sender = self.old.sender in
             let history = vec_len self.old.history in
             let block = vec_len self.old.block in
-            Ready (C.shape sender.code) sender.symbols sender.next history (length packet.now) block }
+            let shape = C.shape sender.code in
+            Ready shape sender.symbols sender.next history (length packet.now) block }
         ensures packet { let sender = self.old.sender in
             let size = packet_size (C.shape sender.code) sender.symbols in
             take size self.new.block.items ≡ packet.now }

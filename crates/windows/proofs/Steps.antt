@@ -12,6 +12,7 @@ use Rattle.systems.specs.Moving.{Continues}
 use Rattle.streams.specs.Streams.{Stream, past, last_packet, Sends, Shows}
 use Rattle.streams.specs.Logs.{Log, settled, IsKnown}
 use Rattle.streams.specs.Logs.Log.{none, lost, heard}
+use Rattle.streams.proofs.Places.{a_packet_on}
 use Rattle.streams.proofs.Looking.{block_same, past_now, last_is_past, last_moves, last_before}
 use Rattle.streams.proofs.Putting.{put, put_there, put_front, last_put, agrees_front}
 use Rattle.windows.specs.Window.{window_size, Seen, window_ago, Carries, HasNumber}
@@ -20,9 +21,6 @@ use Rattle.windows.specs.Law.{WindowLaw}
 -- the window of a stream at slot n, as unknowns
 abbrev window_of : {F S : Type 0} → Link F S → ℕ → Stream S → ℕ → ℕ → ℕ → S
 window_of link w stream n u i = last_packet link w stream n (u / link.shape.sources) (u % link.shape.sources) i
-
-a_packet_on : (v k s : ℕ) → v * s + k + s ≡ (v + 1) * s + k
-a_packet_on v k s = omega (arith, add-mul v 1 s, one-mul s)
 
 -- an unknown behind which there is a packet more lies in the packets before the last
 before_last : (w s u : ℕ) → u + s < w * s → u < (w - 1) * s
