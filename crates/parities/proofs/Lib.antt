@@ -1,0 +1,4 @@
+pub mod Reaching
+pub mod Lone
+pub mod Overlaid
+pub mod Parted

@@ -1,0 +1,2 @@
+pub mod Parities
+pub mod Laws
