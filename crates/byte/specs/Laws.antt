@@ -15,16 +15,17 @@ use Rattle.byte.specs.Arithmetic.{byte_scale, byte_operations, byte_strings}
 use Rattle.arithmetic.proofs.XorLaws.{xor_value}
 use Rattle.byte.specs.Equal.{byte_numbers, symbol_numbers, byte_value, is_byte, is_symbol, byte_sum_laws, symbol_sum_laws}
 
-sum_value : (a b : Byte) → (byte_sums.plus a b).value ≡ bit_xor a.value b.value
+-- the values of what is added up, multiplied and scaled
+pub sum_value : (a b : Byte) → (byte_sums.plus a b).value ≡ bit_xor a.value b.value
 sum_value = xor_value 8 value_of byte byte_numbers
 
-times_value : (a b : Byte) → (byte_products.times a b).value ≡ product a.value b.value
+pub times_value : (a b : Byte) → (byte_products.times a b).value ≡ product a.value b.value
 times_value a b = byte_value (product a.value b.value) (product_below a.value b.value a.ok)
 
-symbol_sum_value : (x y : ByteSymbol) → (symbol_sums.plus x y).value ≡ bit_xor x.value y.value
+pub symbol_sum_value : (x y : ByteSymbol) → (symbol_sums.plus x y).value ≡ bit_xor x.value y.value
 symbol_sum_value = xor_value 8 value_of_symbol symbol symbol_numbers
 
-scale_value : (c : Byte) (x : ByteSymbol) → (byte_scale c x).value ≡ product c.value x.value
+pub scale_value : (c : Byte) (x : ByteSymbol) → (byte_scale c x).value ≡ product c.value x.value
 scale_value c x = byte_value (product c.value x.value) (product_below c.value x.value c.ok)
 
 one_not_zero : byte 1 ≡ byte 0 → ⊥

@@ -3,3 +3,4 @@ pub mod Symbols
 pub mod Arithmetic
 pub mod Laws
 pub mod Equal
+pub mod Numbers

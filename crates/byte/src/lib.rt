@@ -4,6 +4,7 @@
 
 pub mod element;
 pub mod field;
+pub mod laws;
 pub mod product;
 pub mod sums;
 pub mod symbol;
@@ -12,5 +13,6 @@ mod tests;
 pub mod whole;
 
 pub use element::Byte;
+pub use laws::bytes_are_numbers;
 pub use symbol::ByteSymbol;
 pub use whole::ByteArithmetic;

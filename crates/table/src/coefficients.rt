@@ -2,7 +2,10 @@
 ghost use Rattle.std.specs.Prelude.{◌≡◌, ◌+◌, ◌*◌, IfOk, vec_len};
 ghost use Rattle.refusal.specs.Order.{refused_with};
 ghost use Rattle.table.specs.Table.{table_shape, table_refusal};
+ghost use Rattle.table.specs.WrittenOut.{written_out};
 
+use byte::Byte;
+use codes::code::Code;
 use codes::limits::{Parities, Ranged, Sources};
 use refusal::Refusal;
 
@@ -20,9 +23,10 @@ pub struct CoefficientTable {
 }
 
 impl CoefficientTable {
-    /// The code whose coefficients these bytes are: the byte at (j * (M + 1) + a) * K + k is what parity j scales sub-symbol k
-    /// of the packet a slots ago by. Refuses K outside 1 to 8, P outside 1 to 4 and M outside 0 to 63 (1), and another number of
-    /// bytes than P * (M + 1) * K (4); the bytes are then let go.
+    /// The code whose coefficients these bytes are, parity by parity, in each age by age, in each sub-symbol by sub-symbol: the
+    /// byte at (j * (M + 1) + a) * K + k is what parity j scales sub-symbol k of the packet a slots ago by. Refuses K outside 1
+    /// to 8, P outside 1 to 4 and M outside 0 to 63 (1), and another number of bytes than P * (M + 1) * K (4); the bytes are then
+    /// let go.
     pub fn new(
         sources: u32,
         parities: u32,
@@ -33,6 +37,8 @@ impl CoefficientTable {
             ≡ table_refusal (table_shape sources parities memory) (vec_len bytes) }
         ensures made { IfOk result (λ t. (t.sources ≡ sources) × (t.parities ≡ parities)
             × (t.memory ≡ memory) × (t.bytes.items ≡ bytes.items)) }
+        ensures written { let C = ⟦<CoefficientTable as Code<Byte>>⟧ in
+            IfOk result (λ t. written_out (C.shape t) (C.coefficients t) ≡ bytes.items) }
     {
         let sources = Sources::new(sources)?;
         let parities = Parities::new(parities)?;

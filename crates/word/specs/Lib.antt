@@ -3,3 +3,4 @@ pub mod Words
 pub mod Arithmetic
 pub mod Laws
 pub mod Strings
+pub mod Numbers
