@@ -13,7 +13,7 @@ use Rattle.codes.proofs.Places.{below}
 use Rattle.streams.specs.Streams.{Stream, symbol_at, past, IsBlock, HasPacket, HasHistory, Sends}
 use Rattle.streams.proofs.Looking.{block_same, past_now, last_is_past, last_moves, last_before}
 use Rattle.sender.specs.Block.{history_size, recent, symbol_of_parity, parities_of, block_of, history_after}
-use Rattle.sender.specs.Sending.{FollowsStreams}
+use Rattle.sender.specs.Sending.{FollowsStreams, TakesIn}
 use Rattle.sender.proofs.Places.{in_history, packet_on}
 
 -- a history of zeros is every stream's at slot 0
@@ -105,8 +105,36 @@ module _ {F S : Type 0} (link : Link F S) (history packet : List S)
       ∙ ap (λ n. get_or (take all history ++ packet) n zero) place
       ∙ get_or-append-add (take all history) packet (k * l + i) zero
 
+  -- what lies behind the history is not touched
+  after_behind : (n : ℕ) (x : S) → history_size link.shape link.symbols ≤ n → get_or (history_after link history packet) n x ≡ get_or history n x
+  after_behind n x behind =
+      let all = history_size link.shape link.symbols in
+      let front = drop (packet_size link.shape link.symbols) (take all history ++ packet) in
+      let kept = length-take-le all history reaches in
+      let whole_length = length-append (take all history) packet in
+      let front_length = length-drop (packet_size link.shape link.symbols) (take all history ++ packet) in
+      let place : length front + (n - all) ≡ n = omega arith in
+      let there : all + (n - all) ≡ n = omega arith in
+      ap (λ m. get_or (history_after link history packet) m x) (sym place)
+      ∙ get_or-append-add front (drop all history) (n - all) x
+      ∙ get_or-drop all history (n - all) x
+      ∙ ap (λ m. get_or history m x) there
+
+  after_long : length (history_after link history packet) ≡ length history
+  after_long =
+      let all = history_size link.shape link.symbols in
+      let front = drop (packet_size link.shape link.symbols) (take all history ++ packet) in
+      let kept = length-take-le all history reaches in
+      let whole_length = length-append (take all history) packet in
+      let front_length = length-drop (packet_size link.shape link.symbols) (take all history ++ packet) in
+      let rest = length-drop all history in
+      length-append front (drop all history) ∙ omega arith
+
+  pub takes_in : TakesIn link packet history (history_after link history packet)
+  takes_in = record { last = after_youngest; others = after_older; behind = after_behind; as_long = after_long }
+
   -- what is written is the block from which the packets ago are those of history and packet
-  written_block : IsBlock link (recent link history packet) (block_of link history packet)
+  pub written_block : IsBlock link (recent link history packet) (block_of link history packet)
   written_block = record {
     whole = block_whole;
     packet = λ k i lk li. block_packet k i lk li;

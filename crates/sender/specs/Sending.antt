@@ -1,13 +1,13 @@
 -- What a send does. Assumes nothing.
-use Rattle.std.specs.Prelude.{◌≡◌, ℕ, ◌+◌, List, ◌++◌, length, take, IfOk, OnErr, OnOk, Result}
+use Rattle.std.specs.Prelude.{◌≡◌, ℕ, ◌+◌, ◌*◌, ◌<◌, ◌≤◌, List, ◌++◌, length, take, slice_index_or, IfOk, OnErr, OnOk, Result}
 use Rattle.fills.specs.Over.{written_over}
 use Rattle.refusal.specs.declared.Refusal.{Refusal}
 use Rattle.refusal.specs.Order.{refused_with}
 use Rattle.codes.specs.Shape.{block_size}
 use Rattle.codes.specs.Link.{Link}
-use Rattle.streams.specs.Streams.{Stream, HasPacket, HasHistory, Sends}
+use Rattle.streams.specs.Streams.{Stream, symbol_at, IsBlock, HasPacket, HasHistory, Sends}
 use Rattle.sender.specs.State.{SenderState, fresh}
-use Rattle.sender.specs.Block.{block_of, history_after, zero_history}
+use Rattle.sender.specs.Block.{history_size, recent, block_of, history_after, zero_history}
 use Rattle.sender.specs.Limits.{making_refusal, send_refusal}
 
 -- a sender, and the memory that a send is lent: a history, and an output for the block
@@ -38,8 +38,21 @@ FollowsStreams {F} {S} link slot packet history block after =
     (stream : Stream S) → HasHistory link stream slot history → HasPacket link stream slot packet
     → Sends link stream slot block × HasHistory link stream (slot + 1) after
 
+-- a history takes a packet in: it comes last, those before it are the former ones without the oldest, in their order, and what
+-- lies behind the history is as before. Sub-symbol k of packet v is its sub-symbol v * K + k
+pub record TakesIn {F S : Type 0} (link : Link F S) (packet old new : List S) : Type 0 where
+  pub last : (v k i : ℕ) → v + 1 ≡ link.shape.memory → k < link.shape.sources → i < link.symbols
+      → symbol_at link new (v * link.shape.sources + k) i ≡ symbol_at link packet k i
+  pub others : (v k i : ℕ) → v + 1 < link.shape.memory → k < link.shape.sources → i < link.symbols
+      → symbol_at link new (v * link.shape.sources + k) i
+      ≡ symbol_at link old ((v + 1) * link.shape.sources + k) i
+  pub behind : (n : ℕ) (x : S) → history_size link.shape link.symbols ≤ n
+      → slice_index_or new n x ≡ slice_index_or old n x
+  pub as_long : length new ≡ length old
+
 -- sending this packet in this slot: a refused send changes nothing; else the block is written over the output's front, the
--- history takes the packet in, and the slot after it comes next
+-- history takes the packet in, and the slot after it comes next. What is written is said as a whole, by places for every
+-- content of the history, and of streams
 pub record SendSays {F S C X : Type 0} (link : Link F S) (slot : ℕ) (packet : List S)
     (old new : Lent C S) (result : Result X Refusal) : Type 0 where
   pub refusal : refused_with result
@@ -48,4 +61,6 @@ pub record SendSays {F S C X : Type 0} (link : Link F S) (slot : ℕ) (packet : 
   pub next : OnOk result (new.sender ≡ record old.sender { next = old.sender.next + 1 })
   pub block : OnOk result (new.out ≡ written_over (block_of link old.history packet) old.out)
   pub history : OnOk result (new.history ≡ history_after link old.history packet)
+  pub places : OnOk result (IsBlock link (recent link old.history packet) (block_in link new.out))
+  pub moves : OnOk result (TakesIn link packet old.history new.history)
   pub streams : OnOk result (FollowsStreams link slot packet old.history (block_in link new.out) new.history)

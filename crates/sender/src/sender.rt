@@ -147,3 +147,6 @@ impl<A: Arithmetic, C: Code<A::Coef> + Drop> Sender<A, C> {
         Ok(())
     }
 }
+
+#[cfg(test)]
+mod tests;

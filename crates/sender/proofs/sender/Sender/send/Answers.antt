@@ -4,9 +4,10 @@ use Rattle.std.proofs.lemmas.List.{length-take-le, take_at}
 use Rattle.fills.specs.Over.{written_over}
 use Rattle.codes.specs.Shape.{packet_size, block_size}
 use Rattle.codes.specs.Link.{link_of}
-use Rattle.sender.specs.Block.{history_size, block_of, history_after}
-use Rattle.sender.specs.Sending.{FollowsStreams}
-use Rattle.sender.proofs.Streams.{block_whole, follows_streams}
+use Rattle.streams.specs.Streams.{IsBlock}
+use Rattle.sender.specs.Block.{history_size, recent, block_of, history_after}
+use Rattle.sender.specs.Sending.{FollowsStreams, TakesIn}
+use Rattle.sender.proofs.Streams.{block_whole, written_block, takes_in, follows_streams}
 use Rattle.sender.proofs.sender.Sender.send.Goals as goal
 
 pub advance-requires : goal.advance-requires
@@ -41,6 +42,8 @@ returns g c =
       next = search rules;
       block = written;
       history = kept;
+      places = subst (IsBlock link (recent link history packet)) (sym block) (written_block link history packet reaches whole);
+      moves = subst (TakesIn link packet history) (sym kept) (takes_in link history packet reaches whole);
       streams =
           subst (λ b. FollowsStreams link c.args.slot packet history b after) (sym block)
           (subst (λ h. FollowsStreams link c.args.slot packet history (block_of link history packet) h) (sym kept)
