@@ -1,68 +1,53 @@
--- The worked examples, computed. Assumes nothing.
+-- What the stream of the plan sends. Assumes nothing.
 use Rattle.std.proofs.Common.{◌≡◌, ℕ, zero, suc, ◌+◌, ◌-◌, ◌*◌, ◌<◌, ◌≤◌, sym, ap, ◌∙◌, refl, arith, rules}
-use Rattle.std.specs.Prelude.{List, nat_le}
+use Rattle.std.specs.Prelude.{List, [], ◌∷◌, nat_le}
 use Rattle.std.proofs.lemmas.Bool.{cond-false}
 use Rattle.galois.specs.Product.{product}
 use Rattle.byte.specs.declared.symbol.ByteSymbol.{ByteSymbol}
 use Rattle.byte.specs.Equal.{same_symbol}
 use Rattle.byte.specs.Symbols.{symbol, value_of_symbol}
 use Rattle.byte.specs.Laws.{byte_laws}
+use Rattle.word.specs.Laws.{word_numbers}
+use Rattle.word.specs.Words.{word, value_of}
 use Rattle.codes.specs.Parity.{parity}
 use Rattle.streams.specs.Streams.{Stream, past, symbol_at, Sends, HasHistory, last_packet}
 use Rattle.streams.specs.Logs.{Agrees}
 use Rattle.streams.specs.Logs.Log.{none, heard}
-use Rattle.streams.proofs.Looking.{parity_same, past_now}
+use Rattle.streams.proofs.Looking.{parity_same}
 use Rattle.streams.proofs.Putting.{put}
 use Rattle.streams.proofs.Blocks.{one_block}
-use Rattle.stream_examples.specs.Examples.{Examples, link, counting, block, history}
+use Rattle.examples.specs.Streams.{StreamExamples, link, counting, block, word_link, words, history}
+use Rattle.examples.proofs.Places.{Each, each, sends}
 
--- the only place there is
-alone : (P : ℕ → ℕ → Type 0) → P 0 0 → (j i : ℕ) → j < 1 → i < 1 → P j i
-alone P first zero zero lj li = first
-alone P first zero (suc i) lj li = absurd (omega arith)
-alone P first (suc j) i lj li = absurd (omega arith)
-
--- the two sub-symbols of a packet
-both : (P : ℕ → ℕ → Type 0) → P 0 0 → P 1 0 → (k i : ℕ) → k < 2 → i < 1 → P k i
-both P first second zero zero lk li = first
-both P first second (suc zero) zero lk li = second
-both P first second k (suc i) lk li = absurd (omega arith)
-both P first second (suc (suc k)) zero lk li = absurd (omega arith)
-
--- a block of two symbols and a parity is sent, if these three are the stream's
-sends : (stream : Stream ByteSymbol) (t a b p : ℕ) → (symbol a).value ≡ (stream t 0 0).value → (symbol b).value ≡ (stream t 1 0).value
+-- a packet of two symbols and its parity are sent, if these three are the stream's
+slot : (stream : Stream ByteSymbol) (t a b p : ℕ) → (symbol a).value ≡ (stream t 0 0).value → (symbol b).value ≡ (stream t 1 0).value
     → (symbol p).value ≡ (parity link (past link stream t) 0 0).value → Sends link stream t (block a b p)
-sends stream t a b p first second last = record {
-  whole = refl;
-  packet =
-      both (λ k i. symbol_at link (block a b p) k i ≡ past link stream t 0 k i)
-      (same_symbol _ _ first ∙ sym (past_now link stream t 0 0)) (same_symbol _ _ second ∙ sym (past_now link stream t 1 0));
-  parities = alone (λ j i. symbol_at link (block a b p) (2 + j) i ≡ parity link (past link stream t) j i) (same_symbol _ _ last);
-}
+slot stream t a b p first second last =
+    sends value_of_symbol same_symbol link stream t (block a b p) refl ((first, tt), ((second, tt), tt)) ((last, tt), tt)
 
 slot_0 : Sends link counting 0 (block 1 2 0)
 unfolding product
-slot_0 = sends counting 0 1 2 0 refl refl refl
+slot_0 = slot counting 0 1 2 0 refl refl refl
 
 slot_1 : Sends link counting 1 (block 3 4 2)
 unfolding product
-slot_1 = sends counting 1 3 4 2 refl refl refl
+slot_1 = slot counting 1 3 4 2 refl refl refl
 
 slot_2 : Sends link counting 2 (block 5 6 5)
 unfolding product
-slot_2 = sends counting 2 5 6 5 refl refl refl
+slot_2 = slot counting 2 5 6 5 refl refl refl
 
 slot_3 : Sends link counting 3 (block 7 8 5)
 unfolding product
-slot_3 = sends counting 3 7 8 5 refl refl refl
+slot_3 = slot counting 3 7 8 5 refl refl refl
 
 slot_4 : Sends link counting 4 (block 9 10 12)
 unfolding product
-slot_4 = sends counting 4 9 10 12 refl refl refl
+slot_4 = slot counting 4 9 10 12 refl refl refl
 
 slot_5 : Sends link counting 5 (block 11 12 12)
 unfolding product
-slot_5 = sends counting 5 11 12 12 refl refl refl
+slot_5 = slot counting 5 11 12 12 refl refl refl
 
 -- the parity of slot 1 is 2
 parity_1 : (parity link (past link counting 1) 0 0).value ≡ 2
@@ -101,18 +86,24 @@ changed = put 0 (λ k i. symbol (2 * k + 1)) counting
 
 for_some : Sends link changed 1 (block 3 4 3)
 unfolding product changed
-for_some = sends changed 1 3 4 3 refl refl refl
+for_some = slot changed 1 3 4 3 refl refl refl
 
 before_slot_2 : HasHistory link counting 2 history
-before_slot_2 zero k i lv = both (λ k i. symbol_at link history (0 * 2 + k) i ≡ last_packet link 5 counting 2 0 k i) refl refl k i
-before_slot_2 (suc zero) k i lv = both (λ k i. symbol_at link history (1 * 2 + k) i ≡ last_packet link 5 counting 2 1 k i) refl refl k i
-before_slot_2 (suc (suc zero)) k i lv = both (λ k i. symbol_at link history (2 * 2 + k) i ≡ last_packet link 5 counting 2 2 k i) refl refl k i
-before_slot_2 (suc (suc (suc zero))) k i lv = both (λ k i. symbol_at link history (3 * 2 + k) i ≡ last_packet link 5 counting 2 3 k i) refl refl k i
-before_slot_2 (suc (suc (suc (suc zero)))) k i lv = both (λ k i. symbol_at link history (4 * 2 + k) i ≡ last_packet link 5 counting 2 4 k i) refl refl k i
-before_slot_2 (suc (suc (suc (suc (suc v))))) k i lv = absurd (omega arith)
+before_slot_2 v k i lv lk li =
+    let P : ℕ → ℕ → ℕ → Type 0 = λ v k i. symbol_at link history (v * 2 + k) i ≡ last_packet link 5 counting 2 v k i in
+    let two : (v : ℕ) → P v 0 0 → P v 1 0 → Each 2 (λ k. Each 1 (P v k)) = λ v a b. ((a, tt), ((b, tt), tt)) in
+    let all : Each 5 (λ v. Each 2 (λ k. Each 1 (P v k))) =
+    (two 0 refl refl, (two 1 refl refl, (two 2 refl refl, (two 3 refl refl, (two 4 refl refl, tt))))) in
+    each 1 (P v k) (each 2 (λ k. Each 1 (P v k)) (each 5 (λ v. Each 2 (λ k. Each 1 (P v k))) all v lv) k lk) i li
 
-pub examples : Examples
-examples = record {
+-- and so are a word and its parity
+word_slot : (t a p : ℕ) → (word a).value ≡ (words t 0 0).value → (word p).value ≡ (parity word_link (past word_link words t) 0 0).value
+    → Sends word_link words t (word a ∷ word p ∷ [])
+word_slot t a p first last =
+    sends value_of word_numbers.same word_link words t (word a ∷ word p ∷ []) refl ((first, tt), tt) ((last, tt), tt)
+
+pub streams : StreamExamples
+streams = record {
   slot_0 = slot_0;
   slot_1 = slot_1;
   slot_2 = slot_2;
@@ -125,4 +116,6 @@ examples = record {
   against = against;
   for_some = (changed, (tt, for_some));
   before_slot_2 = before_slot_2;
+  word_slot_0 = word_slot 0 0x01020304 0 refl refl;
+  word_slot_1 = word_slot 1 0x05060708 0x01020304 refl refl;
 }

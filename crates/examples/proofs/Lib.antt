@@ -1,0 +1,9 @@
+pub mod Places
+pub mod Streams
+pub mod Tables
+pub mod Overlays
+pub mod Spreads
+pub mod Bytes
+pub mod Frames
+pub mod Refusals
+pub mod Sends

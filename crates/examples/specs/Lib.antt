@@ -1,0 +1,10 @@
+pub mod Listed
+pub mod Streams
+pub mod Tables
+pub mod Overlays
+pub mod Spreads
+pub mod Bytes
+pub mod Frames
+pub mod Refusals
+pub mod Sends
+pub mod Examples

@@ -1,0 +1,10 @@
+//! Worked examples of what the definitions say that contracts name, which the checker computes.
+#![tactic(auto)]
+
+ghost use Rattle.examples.specs.Examples.{Examples};
+
+/// Promises the worked examples: of streams, coefficient tables, overlays, spreads, symbols as bytes, frames, refusals, and a
+/// run of sends. It does nothing.
+pub fn worked_examples()
+    ensures { Examples }
+{}
