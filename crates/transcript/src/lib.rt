@@ -5,4 +5,6 @@ mod lines;
 mod link;
 mod reading;
 mod refusing;
+#[cfg(test)]
+mod tests;
 pub mod whole;

@@ -1,3 +1,5 @@
+use linktext::lines::refusal_text;
+use refusal::Refusal;
 use std::alloc::Global;
 use std::process::Abort;
 use std::test::Fail;
@@ -71,7 +73,9 @@ fn plans_refused(rt: HostRuntime) -> Result<(), Fail> {
         ("64 2 2 1 F\n", "refused 1 line 1: "),
         ("1 9 2 1 W\n", "refused 1 line 1: "),
         ("1 2 9 1 W\n", "refused 1 line 1: "),
+        ("1 0 2 1 W\n", "refused 1 line 1: "),
         ("1 2 0 1 W\n", "refused 1 line 1: "),
+        ("1 2 2 0 W\n", "refused 1 line 1: "),
         ("1 2 2 33 W\n", "refused 1 line 1: "),
         ("99999999999999999999999 2 2 1 F\n", "refused 1 line 1: "),
         ("4294967297 2 2 1 F\n", "refused 1 line 1: "),
@@ -114,4 +118,123 @@ fn longest_line(rt: HostRuntime) -> Result<(), Fail> {
     last_line(&rt, rt.alloc(), text.as_str(), "refused 4 line 2: ")?;
     text.push('0')?;
     last_line(&rt, rt.alloc(), text.as_str(), "refused 10 line 2: ")
+}
+
+// A plan's line of 2,049 and of 2,050 characters is read, and its number is too large; with one more
+// its form is broken.
+#[test]
+fn longest_plan(rt: HostRuntime) -> Result<(), Fail> {
+    let cases = [
+        (2041_u16, "refused 1 line 1: "),
+        (2042, "refused 1 line 1: "),
+        (2043, "refused 10 line 1: "),
+    ];
+    for (digits, start) in cases {
+        let mut text = String::new(rt.alloc());
+        for _ in 0..digits {
+            text.push('1')?;
+        }
+        text.push_str(" 2 2 1 F\n0102\n")?;
+        last_line(&rt, rt.alloc(), text.as_str(), start)?;
+    }
+    Ok(())
+}
+
+// The whole of the line that ends a run, of each refusal that a text of less than all slots can come to.
+#[test]
+fn last_lines(rt: HostRuntime) -> Result<(), Fail> {
+    let cases = [
+        (
+            "",
+            "refused 10 line 1: the first line is B m alpha L, decimal and without leading zeros, and W or F, one blank between, as in: 1 2 2 1 F\n",
+        ),
+        (
+            "1 2 2 1\n0102\n",
+            "refused 10 line 1: the first line is B m alpha L, decimal and without leading zeros, and W or F, one blank between, as in: 1 2 2 1 F\n",
+        ),
+        (
+            "1 9 2 1 F\n0102\n",
+            "refused 1 line 1: a number is outside its limits: B is 1 to 63, m 1 to 8, alpha 1 to 8, L 1 to 32\n",
+        ),
+        (
+            "1 2 2 1 F\n010\n0102\n",
+            "plan B=1 m=2 alpha=2 L=1 byte arithmetic\nT=2 D=5 K=2 P=1 M=5\nrefused 10 line 2: a packet is an even number of the digits 0 to 9 and a to f, and no line is longer than 2050 characters\n",
+        ),
+        (
+            "1 2 2 1 F\n01\n0102\n",
+            "plan B=1 m=2 alpha=2 L=1 byte arithmetic\nT=2 D=5 K=2 P=1 M=5\nrefused 4 line 2: the packet has another length than the plan's: m times L symbols, of 8 digits each for W and 2 for F\n",
+        ),
+    ];
+    for (text, printed) in cases {
+        let shown = transcript(rt.alloc(), text.as_bytes())?;
+        assert_eq!(rt; shown.as_str(), printed);
+    }
+    Ok(())
+}
+
+// What is said of the other refusals, and of a packet behind the last slot.
+#[test]
+fn other_refusals(rt: HostRuntime) -> Result<(), Fail> {
+    let cases = [
+        (
+            Refusal::OutsideLimits,
+            268_435_458,
+            "refused 1 line 268435458: the last slot of a link is 268435455: start another link",
+        ),
+        (
+            Refusal::UnfitShape,
+            1,
+            "refused 2 line 1: a packet has 1 to 8 sub-symbols, and a block 1 to 4 parities: choose another plan",
+        ),
+        (
+            Refusal::ShortMemory,
+            2,
+            "refused 3 line 2: the history is too short: it holds as many packets as the code's memory says",
+        ),
+        (
+            Refusal::ShortOutput,
+            2,
+            "refused 5 line 2: the output is too short: it takes a whole block",
+        ),
+        (
+            Refusal::OtherShape,
+            2,
+            "refused 9 line 2: the frame's symbols have another width: compare the plan cards of truck and studio",
+        ),
+        (
+            Refusal::SlotBelow,
+            2,
+            "refused 11 line 2: this slot was sent before: send the next one",
+        ),
+        (
+            Refusal::SlotAbove,
+            2,
+            "refused 12 line 2: a slot was left out: send the next one first",
+        ),
+        (
+            Refusal::PacketBelow,
+            2,
+            "refused 13 line 2: the packet is older than all that are still kept: ask for it before the window has moved past it",
+        ),
+        (
+            Refusal::PacketAbove,
+            2,
+            "refused 14 line 2: the packet's slot is not settled yet: hand over its frame or report it lost first",
+        ),
+        (
+            Refusal::UnkeptMemory,
+            2,
+            "refused 15 line 2: the memory is not in the form that the receiver keeps: hand in the memory that the last call left",
+        ),
+        (
+            Refusal::Contradiction,
+            2,
+            "refused 16 line 2: the block contradicts what came before it: compare the plan cards of truck and studio",
+        ),
+    ];
+    for (refusal, line, printed) in cases {
+        let shown = refusal_text(rt.alloc(), refusal, line)?;
+        assert_eq!(rt; shown.as_str(), printed);
+    }
+    Ok(())
 }
