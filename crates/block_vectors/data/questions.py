@@ -1,7 +1,7 @@
 """Recipes of codes, and the places at which a code is asked for its coefficients.
 
-A code is handed in as its recipe: its form, and behind that what it is made of, in the order in
-which the numbers stand in a line.
+A code is handed in as its recipe: its form, and behind that what it is made of, one after the other
+as the numbers stand in a line.
 """
 
 import itertools

@@ -31,9 +31,9 @@ impl From<anyhow::Error> for NoCode {
     }
 }
 
-// A form of codes. Its numbers stand in the order of its word: an overlay's delay before those of
-// its first code and then those of its second, a spread's factor before those of its code. Numbers
-// behind a part that is refused are not read.
+// A form of codes. Its numbers stand as the parts of its word do: an overlay's delay before those
+// of its first code and then those of its second, a spread's factor before those of its code.
+// Numbers behind a part that is refused are not read.
 pub(crate) trait Form: Drop {
     fn read(heap: Global, numbers: &mut Words) -> Result<Self, NoCode>;
 }

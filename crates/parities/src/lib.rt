@@ -12,7 +12,8 @@ use codes::spread::Spread;
 
 /// Promises, for every code and every arithmetic, what its parities are sums of. It does nothing.
 pub fn parities_are_sums<A: Arithmetic, C: Code<A::Coef>>()
-    ensures { (code : C) (l : ℕ) → ParityLaw (link_of A.operations C.shape C.coefficients code l) }
+    ensures { let link = link_of A.operations C.shape C.coefficients in
+        (code : C) (l : ℕ) → ParityLaw (link code l) }
 {}
 
 /// Promises, for any two codes and every arithmetic, that the parity of their overlay in a slot, up to the last one, is the first

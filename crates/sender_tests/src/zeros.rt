@@ -13,7 +13,8 @@ pub(crate) struct Zeros {
 }
 
 impl<F: Field> Code<F> for Zeros {
-    ghost shape = { λ z. record { sources = z.sources; parities = z.parities; memory = z.memory } };
+    ghost shape = { λ z.
+        record { sources = z.sources; parities = z.parities; memory = z.memory } };
 
     ghost coefficients = { λ _ _ _ _. F.Sum.sum.zero };
 
