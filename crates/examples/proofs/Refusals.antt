@@ -53,6 +53,8 @@ sending = record {
   all_but_the_slot = refl;
   last_slot = refl;
   last_slot_again = refl;
+  behind = refl;
+  behind_with_all_wrong = refl;
 }
 
 plan_lines : PlanLineExamples

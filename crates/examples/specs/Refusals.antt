@@ -69,6 +69,9 @@ pub record SendExamples : Type 0 where
   -- the last slot is sent, and what comes after it is below the next one
   pub last_slot : send_refusal (shape 2 1 5) 1 268435455 268435455 10 2 3 ≡ accepted
   pub last_slot_again : send_refusal (shape 2 1 5) 1 268435456 268435455 10 2 3 ≡ Some 11
+  -- and what lies behind it is outside the limits, whatever else is wrong
+  pub behind : send_refusal (shape 2 1 5) 1 268435456 268435456 10 2 3 ≡ Some 1
+  pub behind_with_all_wrong : send_refusal (shape 2 1 5) 1 268435456 268435456 9 1 2 ≡ Some 1
 
 -- so many digits 1
 abbrev pub ones : ℕ → List ℕ

@@ -147,6 +147,3 @@ impl<A: Arithmetic, C: Code<A::Coef> + Drop> Sender<A, C> {
         Ok(())
     }
 }
-
-#[cfg(test)]
-mod tests;

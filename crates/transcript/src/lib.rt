@@ -3,8 +3,6 @@
 
 mod lines;
 mod link;
-mod reading;
+pub mod reading;
 mod refusing;
-#[cfg(test)]
-mod tests;
 pub mod whole;

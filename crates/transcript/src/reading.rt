@@ -9,8 +9,9 @@ use linktext::plan_line::LONGEST_LINE;
 use refusal::Refusal;
 use std::alloc::Global;
 
-// The packet that a line hands in for this slot, of so many symbols: it knows no sender that could tell.
-pub(crate) fn read_line<A: Arithmetic>(
+/// The packet that a line hands in for this slot, of so many symbols: it knows no sender that could tell. Refuses a line that breaks
+/// its form (10), then a slot behind the last one of a link (1), and then a packet of another length (4).
+pub fn read_line<A: Arithmetic>(
     heap: Global,
     line: &[u8],
     slot: u32,

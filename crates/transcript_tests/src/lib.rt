@@ -2,4 +2,6 @@
 #![tactic(auto)]
 
 #[cfg(test)]
+mod end_of_link;
+#[cfg(test)]
 mod tests;

@@ -1,11 +1,11 @@
 //! The lines about the end of a link. No test sends as many packets as come before it, so the call
 //! that decides on a line is asked.
-use crate::reading::read_line;
 use arithmetic::arithmetic::Arithmetic;
 use byte::ByteArithmetic;
 use hextext::error::ReadError;
 use std::alloc::{AllocError, Global};
 use std::test::Fail;
+use transcript::reading::read_line;
 use word::WordArithmetic;
 
 // The number that a line is refused with in this slot, if it does not hand in a packet of two
