@@ -1,2 +1,3 @@
 pub mod Sums
+pub mod Scaling
 pub mod XorLaws

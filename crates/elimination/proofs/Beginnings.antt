@@ -4,9 +4,9 @@ use Rattle.std.proofs.lemmas.Bool.{cases_lt}
 use Rattle.arithmetic.specs.Operations.{Operations}
 use Rattle.arithmetic.specs.Laws.{ArithmeticLaws}
 use Rattle.systems.specs.System.{Size, System}
-use Rattle.systems.specs.Kept.{Empty, FirstOne}
+use Rattle.systems.specs.Kept.{Empty, FirstIn, FirstOne}
 use Rattle.systems.specs.Form.{SameRow}
-use Rattle.elimination.specs.Leading.{FirstIn, Leads}
+use Rattle.elimination.specs.Leading.{Leads}
 
 -- a row that is the same as another begins where that begins
 pub same_first_in : {F S : Type 0} {o : Operations F S} {z : Size} {s t : System F S} {r u : ℕ} → SameRow z s t r → u < z.unknowns

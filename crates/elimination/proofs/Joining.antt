@@ -6,19 +6,19 @@ use Rattle.std.proofs.lemmas.Bool.{cases_eq, cases_lt}
 use Rattle.arithmetic.specs.Operations.{Operations}
 use Rattle.arithmetic.specs.Laws.{ArithmeticLaws}
 use Rattle.systems.specs.System.{Size, System, rows, Holds, Solves}
-use Rattle.systems.specs.Kept.{Empty, FirstOne, Gives, Kept}
+use Rattle.systems.specs.Kept.{Empty, FirstIn, FirstOne, Gives, Kept, KeptAmong, NoCoefficient}
 use Rattle.systems.specs.Form.{SameRow}
 use Rattle.systems.specs.Steps.{Added, Moved}
-use Rattle.systems.proofs.Scaled.{gains_zero, gains_no_times, gains_no_times_symbol, gains_its_negative}
+use Rattle.systems.proofs.Combining.{gains_zero, gains_no_times, gains_no_times_symbol, gains_its_negative}
 use Rattle.systems.proofs.Rows.{same_row_then, same_row_holds, empty_holds, same_empty, same_first_one}
 use Rattle.systems.proofs.Steps.{moved_holds, gained_holds}
-use Rattle.elimination.specs.Leading.{FirstIn, Leads, GivesAmong, KeptAmong}
+use Rattle.elimination.specs.Leading.{Leads}
 use Rattle.elimination.specs.Progress.{Settled, Cleared, Joined}
 use Rattle.elimination.proofs.Beginnings.{first_in, leads_in}
 
 module _ {F S : Type 0} (o : Operations F S) (laws : ArithmeticLaws o) where
   -- settled rows, none of which is taken over yet
-  pub joined_start : {z : Size} {old s : System F S} → KeptAmong o z old → Settled o z old s (rows z) → Joined o z s z.unknowns
+  pub joined_start : {z : Size} {old s : System F S} → KeptAmong o z old z.unknowns → Settled o z old s (rows z) → Joined o z s z.unknowns
   joined_start {z} {old} {s} kept settled = record {
     given = λ u l. elim (kept u l) [
       | inl nothing ↦ inl (same_empty (settled.front u l) nothing)
@@ -27,7 +27,7 @@ module _ {F S : Type 0} (o : Operations F S) (laws : ArithmeticLaws o) where
     taken = λ r l k. absurd (omega arith);
     waiting = λ r l k. settled.led r k;
   } where
-    gives_all : (u : ℕ) → u < z.unknowns → GivesAmong o z old u → Gives o z s u
+    gives_all : (u : ℕ) → u < z.unknowns → Gives o old z.unknowns u → Gives o s (rows z) u
     gives_all u l gives =
         let first = same_first_one (settled.front u l) l gives.first in
         record {
@@ -40,7 +40,7 @@ module _ {F S : Type 0} (o : Operations F S) (laws : ArithmeticLaws o) where
 
   -- row t says nothing
   pub joined_skip : {z : Size} {s : System F S} {t : ℕ} → Joined o z s t → z.unknowns ≤ t → t < rows z
-      → ((u : ℕ) → u < z.unknowns → s.coefficient t u ≡ o.coefficients.zero) → Joined o z s (t + 1)
+      → NoCoefficient o z s t → Joined o z s (t + 1)
   joined_skip {z} {s} {t} joined spare within nothing = record {
     given = joined.given;
     taken = λ r l k. below_more (λ q. z.unknowns ≤ q → Empty o z s q) t (λ q m n. joined.taken q n m) (λ n. empty) r k l;
@@ -114,7 +114,7 @@ module _ {F S : Type 0} (o : Operations F S) (laws : ArithmeticLaws o) where
     taken_row = cleared.others t spare
 
     -- where an unknown is given, row t is zero
-    no_gives : (w : ℕ) → w < z.unknowns → Gives o z old w → old.coefficient t w ≡ o.coefficients.zero
+    no_gives : (w : ℕ) → w < z.unknowns → Gives o old (rows z) w → old.coefficient t w ≡ o.coefficients.zero
     no_gives w l gives = gives.alone t within (omega arith)
 
     empty_before : Empty o z old u
@@ -142,7 +142,7 @@ module _ {F S : Type 0} (o : Operations F S) (laws : ArithmeticLaws o) where
           })
         ]
 
-    gives_here : Gives o z new u
+    gives_here : Gives o new (rows z) u
     gives_here = record {
       first = record {
         one = moved.coefficients u column ∙ taken_row.coefficients u column ∙ leads.0.one;
@@ -160,7 +160,7 @@ module _ {F S : Type 0} (o : Operations F S) (laws : ArithmeticLaws o) where
           ]);
     }
 
-    gives_still : (w : ℕ) → w < z.unknowns → w ≢ u → Gives o z old w → Gives o z new w
+    gives_still : (w : ℕ) → w < z.unknowns → w ≢ u → Gives o old (rows z) w → Gives o new (rows z) w
     gives_still w l other gives = record {
       first = record { one = front w w l other l nothing ∙ gives.first.one; before = before };
       alone = alone;
@@ -192,10 +192,10 @@ module _ {F S : Type 0} (o : Operations F S) (laws : ArithmeticLaws o) where
           (λ r k away apart. front r w k away l nothing ∙ gives.alone r (omega arith) apart)
           (λ r m k away apart. (same_spare r m away).coefficients w l ∙ gives.alone r k apart)
 
-    now_given : (w : ℕ) → w < z.unknowns → Empty o z new w ⊎ Gives o z new w
+    now_given : KeptAmong o z new (rows z)
     now_given w l =
         elim (cases_eq w u) [
-          | inl e ↦ inr (subst (Gives o z new) (sym e) gives_here)
+          | inl e ↦ inr (subst (Gives o new (rows z)) (sym e) gives_here)
           | inr other ↦ elim (joined.given w l) [
             | inl nothing ↦ inl (same_empty
                 (same_row_then (moved.others w other (omega arith)) (cleared_same cleared l (nothing.coefficients u column))) nothing)
@@ -235,13 +235,22 @@ module _ {F S : Type 0} (o : Operations F S) (laws : ArithmeticLaws o) where
   pub joined_done : {z : Size} {s : System F S} → Joined o z s (rows z) → Kept o z s
   joined_done joined = record { given = joined.given; spare = joined.taken }
 
-  -- the rows of the unknowns of a kept form are in kept form among themselves, whatever the spare rows become
-  pub kept_among : {z : Size} {s : System F S} (t : System F S) → Kept o z s → ((r : ℕ) → r < z.unknowns → SameRow z t s r) → KeptAmong o z t
-  kept_among {z} {s} t kept same u l =
-      elim (kept.given u l) [
+  -- rows of the unknowns that stay are in kept form among themselves as before, whatever the spare rows become
+  pub among_still : {z : Size} {s : System F S} (t : System F S) → KeptAmong o z s z.unknowns → ((r : ℕ) → r < z.unknowns → SameRow z t s r)
+      → KeptAmong o z t z.unknowns
+  among_still t kept same u l =
+      elim (kept u l) [
         | inl nothing ↦ inl (same_empty (same u l) nothing)
         | inr gives ↦ inr (record {
           first = same_first_one (same u l) l gives.first;
-          alone = λ r k other. (same r k).coefficients u l ∙ gives.alone r (omega arith) other;
+          alone = λ r k other. (same r k).coefficients u l ∙ gives.alone r k other;
         })
       ]
+
+  pub kept_among : {z : Size} {s : System F S} (t : System F S) → Kept o z s → ((r : ℕ) → r < z.unknowns → SameRow z t s r) → KeptAmong o z t z.unknowns
+  kept_among {z} {s} t kept same = among_still t among same where
+    among : KeptAmong o z s z.unknowns
+    among u l = elim (kept.given u l) [
+      | inl nothing ↦ inl nothing
+      | inr gives ↦ inr (record { first = gives.first; alone = λ r k other. gives.alone r (omega arith) other })
+    ]

@@ -5,78 +5,83 @@ use borrow.Author.Count.{below_more}
 use Rattle.arithmetic.specs.Operations.{Operations}
 use Rattle.arithmetic.specs.Laws.{ArithmeticLaws}
 use Rattle.systems.specs.System.{Size, System, Holds, HoldBelow, at_place}
-use Rattle.systems.specs.Kept.{Empty, FirstOne}
-use Rattle.systems.specs.Form.{SameRow}
+use Rattle.systems.specs.Kept.{Empty, FirstIn, NoCoefficient, NoSymbol}
 use Rattle.systems.specs.Steps.{Scaled}
-use Rattle.systems.proofs.Scaled.{times_zero, combined_zero}
+use Rattle.arithmetic.proofs.Scaling.{times_zero}
+use Rattle.systems.proofs.Combining.{combined_zero}
 use Rattle.systems.proofs.Rows.{same_row_then, same_row_holds, same_rows_hold, same_empty, same_first_one}
 use Rattle.systems.proofs.Steps.{scaled_holds}
-use Rattle.elimination.specs.Leading.{FirstIn, Leads, Led}
+use Rattle.elimination.specs.Leading.{Leads, Led}
 use Rattle.elimination.specs.Progress.{Reduced, SettledRow, Settled}
+use Rattle.elimination.proofs.Beginnings.{first_in}
 
 module _ {F S : Type 0} (o : Operations F S) (laws : ArithmeticLaws o) where
-  -- one more row, zero where those before it lead
-  led_more : {z : Size} {old new : System F S} {t : ℕ} → Led o z old t → ((r : ℕ) → r ≢ t → SameRow z new old r)
-      → ((r u : ℕ) → r < t → u < z.unknowns → FirstOne o old r u → new.coefficient t u ≡ o.coefficients.zero)
-      → Empty o z new t ⊎ Leads o z new (t + 1) t → Led o z new (t + 1)
-  led_more {z} {old} {new} {t} led others clear = below_more (λ r. Empty o z new r ⊎ Leads o z new (t + 1) r) t (λ r l. still r l (led r l)) where
+  -- a reduced row that says nothing, or leads, is settled
+  settled_row : {z : Size} {old new : System F S} {t : ℕ} → Led o z old t → Reduced o z old new t t
+      → Empty o z new t ⊎ Leads o z new (t + 1) t → SettledRow o z old new t
+  settled_row {z} {old} {new} {t} led d last = record {
+    others = d.others;
+    means = d.means;
+    led = below_more (λ r. Empty o z new r ⊎ Leads o z new (t + 1) r) t (λ r l. still r l (led r l)) last;
+  } where
     still : (r : ℕ) → r < t → Empty o z old r ⊎ Leads o z old t r → Empty o z new r ⊎ Leads o z new (t + 1) r
-    still r l (inl nothing) = inl (same_empty (others r (omega arith)) nothing)
+    still r l (inl nothing) = inl (same_empty (d.others r (omega arith)) nothing)
     still r l (inr leads) = inr (record {
       column = leads.column;
       within = leads.within;
-      first = same_first_one (others r (omega arith)) leads.within leads.first;
+      first = same_first_one (d.others r (omega arith)) leads.within leads.first;
       clear = λ q after below. below_more (λ q. r < q → new.coefficient q leads.column ≡ o.coefficients.zero) t
-          (λ q below after. (others q (omega arith)).coefficients leads.column leads.within ∙ leads.clear q after below)
-          (λ after. clear r leads.column l leads.within leads.first) q below after;
+          (λ q below after. (d.others q (omega arith)).coefficients leads.column leads.within ∙ leads.clear q after below)
+          (λ after. d.clear r leads.column l leads.within leads.first) q below after;
     })
 
   -- a row of which nothing is left is settled
   pub settled_row_empty : {z : Size} {old new : System F S} {t : ℕ} → Led o z old t → Reduced o z old new t t
-      → ((u : ℕ) → u < z.unknowns → new.coefficient t u ≡ o.coefficients.zero)
-      → ((p : ℕ) → p < z.symbols → new.symbol t p ≡ o.symbols.zero) → SettledRow o z old new t
-  settled_row_empty led d coefficients symbols = record {
-    others = d.others;
-    means = d.means;
-    led = led_more led d.others d.clear (inl (record { coefficients = coefficients; symbols = symbols }));
-  }
+      → NoCoefficient o z new t → NoSymbol o z new t → SettledRow o z old new t
+  settled_row_empty led d coefficients symbols = settled_row led d (inl (record { coefficients = coefficients; symbols = symbols }))
 
   -- a row with no coefficient left holds only where no symbol is left either
-  pub no_symbol_left : {z : Size} {old new : System F S} {t : ℕ} → Reduced o z old new t t
-      → ((u : ℕ) → u < z.unknowns → new.coefficient t u ≡ o.coefficients.zero)
-      → (x : ℕ → ℕ → S) → HoldBelow o z old t x → Holds o z old x t → (p : ℕ) → p < z.symbols → new.symbol t p ≡ o.symbols.zero
+  pub no_symbol_left : {z : Size} {old new : System F S} {t : ℕ} → Reduced o z old new t t → NoCoefficient o z new t
+      → (x : ℕ → ℕ → S) → HoldBelow o z old t x → Holds o z old x t → NoSymbol o z new t
   no_symbol_left {z} {old} {new} {t} d nothing x below held p within =
       sym ((d.means x below).1 held p within) ∙ combined_zero o laws z.unknowns (new.coefficient t) (at_place x p) nothing
 
-  -- and so is one that is scaled so that it begins with a one
+  -- and so is one that begins with a one
+  pub settled_row_leading : {z : Size} {old new : System F S} {t u : ℕ} → Led o z old t → Reduced o z old new t t
+      → u < z.unknowns → FirstIn o new t u → new.coefficient t u ≡ o.products.one → SettledRow o z old new t
+  settled_row_leading {u = u} led d within begins one =
+      settled_row led d (inr (record {
+        column = u;
+        within = within;
+        first = record { one = one; before = begins.before };
+        clear = λ q after below. absurd (omega arith);
+      }))
+
+  -- and one that is scaled so that it does
   pub settled_row_scaled : {z : Size} {old s new : System F S} {t u : ℕ} {c : F} → Led o z old t → Reduced o z old s t t
       → u < z.unknowns → FirstIn o s t u → o.products.times (s.coefficient t u) c ≡ o.products.one → Scaled o z s new t c
       → SettledRow o z old new t
-  settled_row_scaled {z} {old} {s} {new} {t} {u} {c} led d within begins inverse e = record {
-    others = others;
-    means = λ x below. trans (scaled_holds o laws e some x) (d.means x below);
-    led = led_more led others
-        (λ r w l column f. zeros w column (d.clear r w l column f))
-        (inr (record {
-          column = u;
-          within = within;
-          first = record {
-            one = e.coefficients u within ∙ laws.products.comm c (s.coefficient t u) ∙ inverse;
-            before = λ v l. zeros v (omega arith) (begins.before v l);
-          };
-          clear = λ q after below. absurd (omega arith);
-        }));
-  } where
-    others : (r : ℕ) → r ≢ t → SameRow z new old r
-    others r other = same_row_then (e.others r other) (d.others r other)
+  settled_row_scaled {z} {old} {s} {new} {t} {u} {c} led d within begins inverse e = settled_row_leading led still within first one where
+    zeros : (w : ℕ) → w < z.unknowns → s.coefficient t w ≡ o.coefficients.zero → new.coefficient t w ≡ o.coefficients.zero
+    zeros w column k = e.coefficients w column ∙ ap (o.products.times c) k ∙ times_zero o laws c
 
     some : c ≢ o.coefficients.zero
     some k =
         laws.products.one_not_zero
         (sym inverse ∙ ap (o.products.times (s.coefficient t u)) k ∙ times_zero o laws (s.coefficient t u))
 
-    zeros : (w : ℕ) → w < z.unknowns → s.coefficient t w ≡ o.coefficients.zero → new.coefficient t w ≡ o.coefficients.zero
-    zeros w column k = e.coefficients w column ∙ ap (o.products.times c) k ∙ times_zero o laws c
+    still : Reduced o z old new t t
+    still = record {
+      others = λ r other. same_row_then (e.others r other) (d.others r other);
+      means = λ x below. trans (scaled_holds o laws e some x) (d.means x below);
+      clear = λ r w l column f. zeros w column (d.clear r w l column f);
+    }
+
+    one : new.coefficient t u ≡ o.products.one
+    one = e.coefficients u within ∙ laws.products.comm c (s.coefficient t u) ∙ inverse
+
+    first : FirstIn o new t u
+    first = first_in o laws (record { one = one; before = λ v l. zeros v (omega arith) (begins.before v l) })
 
   -- one more settled row
   pub settled_more : {z : Size} {old s new : System F S} {t : ℕ} → z.unknowns ≤ t → Settled o z old s t → SettledRow o z s new t

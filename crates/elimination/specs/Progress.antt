@@ -2,7 +2,7 @@
 use Rattle.std.specs.Prelude.{◌≡◌, ℕ, ◌+◌, ◌<◌, ◌≤◌, ◌⊎◌, ◌≢◌, ◌↔◌}
 use Rattle.arithmetic.specs.Operations.{Operations}
 use Rattle.systems.specs.System.{Size, System, rows, Holds, HoldBelow}
-use Rattle.systems.specs.Kept.{Empty, FirstOne, Gives}
+use Rattle.systems.specs.Kept.{Empty, FirstOne, KeptAmong}
 use Rattle.systems.specs.Form.{SameRow}
 use Rattle.elimination.specs.Leading.{Leads, Led}
 
@@ -35,6 +35,6 @@ pub record Cleared {F S : Type 0} (o : Operations F S) (z : Size) (old new : Sys
 
 -- the spare rows below t are taken over into those of the unknowns, and each of the others says nothing or leads
 pub record Joined {F S : Type 0} (o : Operations F S) (z : Size) (s : System F S) (t : ℕ) : Type 0 where
-  pub given : (u : ℕ) → u < z.unknowns → Empty o z s u ⊎ Gives o z s u
+  pub given : KeptAmong o z s (rows z)
   pub taken : (r : ℕ) → z.unknowns ≤ r → r < t → Empty o z s r
   pub waiting : (r : ℕ) → t ≤ r → r < rows z → Empty o z s r ⊎ Leads o z s (rows z) r

@@ -6,7 +6,7 @@ use Rattle.arithmetic.proofs.Sums.{sum_same, sum_zero, sum_only, sum_plus}
 use Rattle.codes.specs.Link.{Link}
 use Rattle.codes.specs.Parity.{sum_of_age, term}
 use Rattle.streams.specs.Streams.{Stream, past}
-use Rattle.systems.proofs.Scaled.{scale_nothing, scale_by_zero}
+use Rattle.arithmetic.proofs.Scaling.{scale_nothing, scale_by_zero}
 use Rattle.parities.specs.Parities.{parity_of, added, lone}
 use Rattle.parities.specs.Laws.{Bounded, ParityLaw}
 use Rattle.parities.proofs.Reaching.{age_of_zeros, before_all, packet_ago, to_age}

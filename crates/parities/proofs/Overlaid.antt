@@ -10,7 +10,7 @@ use Rattle.codes.specs.Parity.{sum_of_age, term}
 use Rattle.codes.specs.Coefficients.{overlay, overlay_shape}
 use Rattle.codes.specs.Bounded.{overlay_bounded}
 use Rattle.streams.specs.Streams.{Stream, past}
-use Rattle.systems.proofs.Scaled.{scale_by_zero}
+use Rattle.arithmetic.proofs.Scaling.{scale_by_zero}
 use Rattle.parities.specs.Parities.{parity_of}
 use Rattle.parities.specs.Laws.{Bounded, OverlayLaw}
 use Rattle.parities.proofs.Reaching.{longer_sum, before_all, packet_ago, to_slot}

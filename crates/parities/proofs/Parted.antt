@@ -12,7 +12,7 @@ use Rattle.codes.specs.Parity.{sum_of_age}
 use Rattle.codes.specs.Coefficients.{spread, spread_shape}
 use Rattle.codes.specs.Bounded.{spread_bounded}
 use Rattle.streams.specs.Streams.{Stream, past}
-use Rattle.systems.proofs.Scaled.{scale_by_zero}
+use Rattle.arithmetic.proofs.Scaling.{scale_by_zero}
 use Rattle.parities.specs.Parities.{every}
 use Rattle.parities.specs.Laws.{Bounded, SpreadLaw}
 use Rattle.parities.proofs.Reaching.{packet_ago, to_slot}

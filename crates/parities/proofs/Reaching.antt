@@ -9,7 +9,7 @@ use Rattle.arithmetic.proofs.Sums.{plus_zero, sum_zero, sum_split}
 use Rattle.codes.specs.Link.{Link}
 use Rattle.codes.specs.Parity.{sum_of_age}
 use Rattle.streams.specs.Streams.{Stream, past}
-use Rattle.systems.proofs.Scaled.{scale_nothing, scale_by_zero}
+use Rattle.arithmetic.proofs.Scaling.{scale_nothing, scale_by_zero}
 use Rattle.parities.specs.Parities.{parity_of}
 use Rattle.parities.specs.Laws.{Bounded}
 

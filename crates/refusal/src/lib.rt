@@ -11,7 +11,7 @@ pub enum Refusal {
     OutsideLimits,
     /// 2: a code whose packets have not 1 to 8 sub-symbols, or whose blocks not 1 to 4 parities.
     UnfitShape,
-    /// 3: the memory that was lent is too short: a history, or the rows of a solver and the equations that it is handed.
+    /// 3: the memory that was lent is too short: a history, or the rows of a solver and the equations or symbols that it is handed.
     ShortMemory,
     /// 4: a packet or a coefficient table of another length than its code has, or a block of another than its shape says.
     OtherLength,

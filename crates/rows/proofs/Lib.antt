@@ -1,3 +1,4 @@
 pub mod Places
 pub mod Written
 pub mod Behind
+pub mod Loans

@@ -1,6 +1,6 @@
 -- Where rows of w elements each lie that come one after the other. Assumes nothing.
-use Rattle.std.proofs.Common.{ℕ, ◌+◌, ◌*◌, ◌<◌, ◌≤◌, ◌≢◌, ◌⊎◌, inl, inr, mul-le-mul_right, add-mul, arith}
-use Rattle.std.proofs.lemmas.Bool.{cases_order}
+use Rattle.std.proofs.Common.{◌≡◌, ℕ, ◌+◌, ◌-◌, ◌*◌, ◌<◌, ◌≤◌, ◌≢◌, ◌⊎◌, inl, inr, ap, mul-le-mul_right, add-mul, arith}
+use Rattle.std.proofs.lemmas.Bool.{cases_order, cases_eq}
 
 pub row_before : (q r w : ℕ) → q < r → q * w + w ≤ r * w
 row_before q r w h =
@@ -31,3 +31,23 @@ place_within r m w n u h room k = let up = row_within r m w n h room in omega ar
 -- elements of two rows lie in two places
 pub other_place : (q r w u v : ℕ) → q ≢ r → u < w → v < w → q * w + u ≢ r * w + v
 other_place q r w u v other h k e = elim (outside_row q r w u other h) [ inl a ↦ omega arith | inr a ↦ omega arith ]
+
+-- an element of row q lies outside the columns of row r from column `start` on
+pub outside_columns : (q r w start u : ℕ) → start ≤ w → u < w → (q ≢ r) ⊎ (u < start) → (q * w + u < r * w + start) ⊎ (r * w + start + (w - start) ≤ q * w + u)
+outside_columns q r w start u within h elsewhere =
+    elim (cases_eq q r) [
+      | inl same ↦
+          let level : q * w ≡ r * w = ap (λ (i : ℕ). i * w) same in
+          elim elsewhere [ inl other ↦ absurd (other same) | inr before ↦ inl (omega arith) ]
+      | inr other ↦ elim (outside_row q r w u other h) [ inl a ↦ inl (omega arith) | inr a ↦ inr (omega arith) ]
+    ]
+
+-- elements of two rows, or of two columns, lie in two places
+pub other_column : (q r w u v : ℕ) → u < w → v < w → (q ≢ r) ⊎ (u ≢ v) → q * w + u ≢ r * w + v
+other_column q r w u v h k side e =
+    elim (cases_eq q r) [
+      | inl same ↦
+          let level : q * w ≡ r * w = ap (λ (i : ℕ). i * w) same in
+          elim side [ inl other ↦ other same | inr other ↦ other (omega arith) ]
+      | inr other ↦ other_place q r w u v other h k e
+    ]

@@ -1,5 +1,5 @@
 -- A memory's rows, which lie one after the other: their coefficients in one slice, their symbols in another. Assumes nothing.
-use Rattle.std.specs.Prelude.{◌≡◌, ℕ, ◌+◌, ◌*◌, ◌<◌, ◌≤◌, ◌≢◌, List, drop, slice_index_or}
+use Rattle.std.specs.Prelude.{◌≡◌, ℕ, ◌+◌, ◌*◌, ◌≤◌, List, drop, slice_index_or}
 use Rattle.arithmetic.specs.Operations.{Operations}
 use Rattle.systems.specs.System.{Size, System, rows}
 
@@ -10,20 +10,6 @@ coefficient o z coefficients r u = slice_index_or coefficients (r * z.unknowns +
 -- symbol p of row r is the one at r * l + p
 abbrev pub symbol : {F S : Type 0} → Operations F S → Size → List S → ℕ → ℕ → S
 symbol o z symbols r p = slice_index_or symbols (r * z.symbols + p) o.symbols.zero
-
--- all coefficients of row r are zero
-abbrev pub NoCoefficient : {F S : Type 0} → Operations F S → Size → List F → ℕ → Type 0
-NoCoefficient o z coefficients r = (u : ℕ) → u < z.unknowns → coefficient o z coefficients r u ≡ o.coefficients.zero
-
--- the first one that is not zero stands in column u
-abbrev pub FirstColumn : {F S : Type 0} → Operations F S → Size → List F → ℕ → ℕ → Type 0
-FirstColumn o z coefficients r u =
-    (u < z.unknowns) × (coefficient o z coefficients r u ≢ o.coefficients.zero)
-    × ((v : ℕ) → v < u → coefficient o z coefficients r v ≡ o.coefficients.zero)
-
--- all symbols of row r are zero
-abbrev pub NoSymbol : {F S : Type 0} → Operations F S → Size → List S → ℕ → Type 0
-NoSymbol o z symbols r = (p : ℕ) → p < z.symbols → symbol o z symbols r p ≡ o.symbols.zero
 
 -- the system that a memory holds
 abbrev pub memory : {F S : Type 0} → Operations F S → Size → List F → List S → System F S

@@ -40,16 +40,25 @@ pub(crate) fn change<T: Copy, F: Fn(T) -> T>(items: &mut [T], to: usize, width: 
     }
 }
 
-// Copies a row of other items into the row at `to`.
-pub(crate) fn copy<T: Copy>(items: &mut [T], to: usize, others: &[T], source: usize, width: usize)
+// Writes into each element of the row at `to` what `f` makes of it and of its fellow among others.
+pub(crate) fn combine_with<T: Copy, F: Fn(T, T) -> T>(
+    items: &mut [T],
+    to: usize,
+    others: &[T],
+    source: usize,
+    width: usize,
+    f: F,
+)
+    requires callable { F.IsAlwaysCallable f }
     requires within { (to + width ≤ length items.old) × (source + width ≤ length others.now) }
-    ensures copied { (k : ℕ) (d : _) → k < width
-        → slice_index_or items.new (to + k) d ≡ slice_index_or others.now (source + k) d }
+    ensures combined { (k : ℕ) (d : _) → k < width
+        → F.post f (slice_index_or items.old (to + k) d) (slice_index_or others.now (source + k) d)
+        (slice_index_or items.new (to + k) d) }
     ensures others { (i : ℕ) (d : _) → (i < to) ⊎ (to + width ≤ i)
         → slice_index_or items.new i d ≡ slice_index_or items.old i d }
 {
     for k in 0..width {
-        items[to + k] = others[source + k];
+        items[to + k] = f(items[to + k], others[source + k]);
     }
 }
 

@@ -3,5 +3,8 @@
 
 pub mod equations;
 mod items;
+pub mod memory;
+pub mod moving;
+pub mod reading;
 pub mod size;
 pub mod steps;

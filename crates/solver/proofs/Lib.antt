@@ -1,2 +1,5 @@
-pub mod Loops
+pub mod Copying
+pub mod Settling
 pub mod Taking
+pub mod Barring
+pub mod Diagonal

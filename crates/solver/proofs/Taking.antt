@@ -4,7 +4,7 @@ use Rattle.std.proofs.lemmas.Bool.{cases_lt}
 use Rattle.arithmetic.specs.Operations.{Operations}
 use Rattle.arithmetic.specs.Laws.{ArithmeticLaws}
 use Rattle.systems.specs.System.{Size, System, rows, Holds, Solves}
-use Rattle.systems.specs.Kept.{Kept}
+use Rattle.systems.specs.Kept.{Kept, Empty}
 use Rattle.systems.specs.Form.{SameRow}
 use Rattle.systems.proofs.Unique.{form_of_same}
 use Rattle.systems.proofs.Rows.{same_row_then, both_empty, alike_holds, same_row_holds, empty_holds}
@@ -48,6 +48,19 @@ module _ {F S : Type 0} (o : Operations F S) (laws : ArithmeticLaws o) (z : Size
     back : Both o z old k given x → Solves o z new x
     back both r h = new_row r h both
 
+-- a system in kept form is given up: the rows of the unknowns are as they were, and the spare rows say nothing, so no row has changed
+pub given_up : {F S : Type 0} {o : Operations F S} {z : Size} {old new : System F S} → Kept o z old
+    → ((r : ℕ) → r < z.unknowns → SameRow z new old r) → ((r : ℕ) → z.unknowns ≤ r → r < rows z → Empty o z new r)
+    → ((r : ℕ) → rows z ≤ r → SameRow z new old r) → (r : ℕ) → SameRow z new old r
+given_up {z = z} kept front empty behind r =
+    elim (cases_lt r z.unknowns) [
+      | inl first ↦ front r first
+      | inr later ↦ elim (cases_lt r (rows z)) [
+        | inl spare ↦ both_empty (empty r later spare) (kept.spare r later spare)
+        | inr beyond ↦ behind r beyond
+      ]
+    ]
+
 -- what solving says of the rows with the equations among them is what taking in says of the rows before
 module _ {F S : Type 0} (o : Operations F S) (laws : ArithmeticLaws o) (z : Size) (k : ℕ) (given : System F S)
     (cs ms ds : List F) (ss ns ts : List S) (few : k ≤ z.spare) (unknown : 0 < z.unknowns) (symbol : 0 < z.symbols)
@@ -63,11 +76,5 @@ module _ {F S : Type 0} (o : Operations F S) (laws : ArithmeticLaws o) (z : Size
     (same_coefficients o z cs ds ss ts unknown long same, same_symbols o z cs ds ss ts symbol wide same),
   ) where
     same : (r : ℕ) → SameRow z (memory o z ds ts) (memory o z cs ss) r
-    same r =
-        elim (cases_lt r z.unknowns) [
-          | inl first ↦ same_row_then (front r first) (copied.front r first)
-          | inr later ↦ elim (cases_lt r (rows z)) [
-            | inl spare ↦ both_empty (empty r later spare) (kept.spare r later spare)
-            | inr beyond ↦ same_row_then (behind r beyond) (copied.behind r (omega arith))
-          ]
-        ]
+    same = given_up kept (λ r h. same_row_then (front r h) (copied.front r h)) empty
+        (λ r h. same_row_then (behind r h) (copied.behind r (omega arith)))

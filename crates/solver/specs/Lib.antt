@@ -2,3 +2,4 @@ pub mod Refusals
 pub mod BatchOutcome
 pub mod Copying
 pub mod Reading
+pub mod Barred

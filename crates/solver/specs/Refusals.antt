@@ -23,3 +23,9 @@ batch_refusal z k d t c s =
 -- reading unknown u
 abbrev pub reading_refusal : Size → ℕ → ℕ → ℕ → Option ℕ
 reading_refusal z u c s = refused (nat_le z.unknowns u) 1 (memory_refusal z c s)
+
+-- giving unknown u the first of g symbols
+abbrev pub giving_refusal : Size → ℕ → ℕ → ℕ → ℕ → Option ℕ
+giving_refusal z u g c s =
+    refused (nat_le z.unknowns u) 1
+    (refused (short_of z c s || nat_lt g z.symbols) 3 accepted)

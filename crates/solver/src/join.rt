@@ -1,76 +1,64 @@
 //! Equations in the spare rows become rows of unknowns.
-ghost use Rattle.std.specs.Prelude.{ℕ, ◌+◌, ◌<◌, ◌≤◌, ◌↔◌, length};
+ghost use Rattle.std.specs.Prelude.{ℕ, ◌+◌, ◌<◌, ◌≤◌, ◌↔◌};
 ghost use Rattle.systems.specs.System.{rows, Solves};
 ghost use Rattle.systems.specs.Form.{SameRow, KeptFormOf};
 ghost use Rattle.elimination.specs.Progress.{Cleared, Joined};
-ghost use Rattle.rows.specs.Memory.{memory, Room};
+ghost use Rattle.rows.specs.Lent.{system_of, SameLoan};
 
+use crate::clear::clear;
 use arithmetic::arithmetic::Arithmetic;
-use arithmetic::coefficients::negative;
-use rows::size::Size;
-use rows::steps::{add_row, coefficient_at, first_column, move_row};
+use rows::memory::Memory;
 
 // Takes from each unknown's row such a multiple of row `row` that the column is zero in it.
-fn clear_column<A: Arithmetic>(
-    size: &Size,
-    coefficients: &mut [A::Coef],
-    symbols: &mut [A::Sym],
-    row: usize,
-    column: usize,
-)
-    requires room { Room size.now (length coefficients.old) (length symbols.old) }
-    requires within { (row < rows size.now) × (column < size.now.unknowns) }
-    requires spare { size.now.unknowns ≤ row }
-    ensures { let old = memory A.operations size.now coefficients.old symbols.old in
-        let new = memory A.operations size.now coefficients.new symbols.new in
-        Cleared A.operations size.now old new row column size.now.unknowns }
+fn clear_column<A: Arithmetic>(memory: &mut Memory<A::Coef, A::Sym>, row: usize, column: usize)
+    requires spare { (memory.old.size.unknowns ≤ row) × (row < rows memory.old.size) }
+    requires within { column < memory.old.size.unknowns }
+    ensures same { SameLoan memory.old memory.new }
+    ensures cleared { let z = memory.old.size in
+        let old = system_of A.operations memory.old in
+        let new = system_of A.operations memory.new in
+        Cleared A.operations z old new row column z.unknowns }
 {
-    for other in 0..size.unknowns() {
-        let c = negative::<A>(coefficient_at::<A>(size, coefficients, other, column));
-        add_row::<A>(size, coefficients, symbols, other, row, c);
+    for other in 0..memory.size.unknowns() {
+        clear::<A>(memory, other, row, column);
     }
 }
 
 // Makes what row `row` says the row of the unknown that it begins with.
-fn join_row<A: Arithmetic>(
-    size: &Size,
-    coefficients: &mut [A::Coef],
-    symbols: &mut [A::Sym],
-    row: usize,
-)
-    requires room { Room size.now (length coefficients.old) (length symbols.old) }
-    requires within { row < rows size.now }
-    requires spare { size.now.unknowns ≤ row }
-    requires joined { let old = memory A.operations size.now coefficients.old symbols.old in
-        Joined A.operations size.now old row }
-    ensures joined { let new = memory A.operations size.now coefficients.new symbols.new in
-        Joined A.operations size.now new (row + 1) }
-    ensures means { let old = memory A.operations size.now coefficients.old symbols.old in
-        let new = memory A.operations size.now coefficients.new symbols.new in
-        (x : _) → Solves A.operations size.now new x ↔ Solves A.operations size.now old x }
-    ensures behind { let old = memory A.operations size.now coefficients.old symbols.old in
-        let new = memory A.operations size.now coefficients.new symbols.new in
-        (r : ℕ) → rows size.now ≤ r → SameRow size.now new old r }
+fn join_row<A: Arithmetic>(memory: &mut Memory<A::Coef, A::Sym>, row: usize)
+    requires spare { (memory.old.size.unknowns ≤ row) × (row < rows memory.old.size) }
+    requires joined { Joined A.operations memory.old.size (system_of A.operations memory.old) row }
+    ensures same { SameLoan memory.old memory.new }
+    ensures joined { let new = system_of A.operations memory.new in
+        Joined A.operations memory.old.size new (row + 1) }
+    ensures means { let z = memory.old.size in
+        let old = system_of A.operations memory.old in
+        let new = system_of A.operations memory.new in
+        (x : _) → Solves A.operations z new x ↔ Solves A.operations z old x }
+    ensures behind { let old = system_of A.operations memory.old in
+        let new = system_of A.operations memory.new in
+        (r : ℕ) → rows memory.old.size ≤ r → SameRow memory.old.size new old r }
 {
-    if let Some(column) = first_column::<A>(size, coefficients, row) {
-        clear_column::<A>(size, coefficients, symbols, row, column);
-        move_row::<A>(size, coefficients, symbols, column, row);
+    if let Some(column) = memory.first_column::<A>(row) {
+        clear_column::<A>(memory, row, column);
+        memory.move_row::<A>(column, row);
     }
 }
 
 // Makes what the spare rows say rows of unknowns.
-pub(crate) fn join<A: Arithmetic>(size: &Size, coefficients: &mut [A::Coef], symbols: &mut [A::Sym])
-    requires room { Room size.now (length coefficients.old) (length symbols.old) }
-    requires joined { let old = memory A.operations size.now coefficients.old symbols.old in
-        Joined A.operations size.now old size.now.unknowns }
-    ensures form { let old = memory A.operations size.now coefficients.old symbols.old in
-        let new = memory A.operations size.now coefficients.new symbols.new in
-        KeptFormOf A.operations size.now new (Solves A.operations size.now old) }
-    ensures behind { let old = memory A.operations size.now coefficients.old symbols.old in
-        let new = memory A.operations size.now coefficients.new symbols.new in
-        (r : ℕ) → rows size.now ≤ r → SameRow size.now new old r }
+pub(crate) fn join<A: Arithmetic>(memory: &mut Memory<A::Coef, A::Sym>)
+    requires joined { let z = memory.old.size in
+        Joined A.operations z (system_of A.operations memory.old) z.unknowns }
+    ensures same { SameLoan memory.old memory.new }
+    ensures form { let z = memory.old.size in
+        let old = system_of A.operations memory.old in
+        let new = system_of A.operations memory.new in
+        KeptFormOf A.operations z new (Solves A.operations z old) }
+    ensures behind { let old = system_of A.operations memory.old in
+        let new = system_of A.operations memory.new in
+        (r : ℕ) → rows memory.old.size ≤ r → SameRow memory.old.size new old r }
 {
-    for row in size.unknowns()..size.rows() {
-        join_row::<A>(size, coefficients, symbols, row);
+    for row in memory.size.unknowns()..memory.size.rows() {
+        join_row::<A>(memory, row);
     }
 }

@@ -4,6 +4,8 @@
 #![tactic(auto)]
 
 pub mod batch;
+mod clear;
+pub mod give;
 mod join;
 pub mod kept;
 pub mod move_on;

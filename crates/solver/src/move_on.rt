@@ -1,39 +1,16 @@
 //! Moving on to newer unknowns.
-ghost use Rattle.std.specs.Prelude.{◌≡◌, ◌<◌, ◌≤◌, length, OnErr, OnOk};
+ghost use Rattle.std.specs.Prelude.{◌≡◌, length, OnErr, OnOk};
 ghost use Rattle.refusal.specs.Order.{refused_with};
-ghost use Rattle.systems.specs.System.{rows};
 ghost use Rattle.systems.specs.Kept.{Kept};
 ghost use Rattle.systems.specs.Form.{KeptFormOf};
-ghost use Rattle.systems.specs.Moving.{Continues, Shifted};
+ghost use Rattle.systems.specs.Moving.{Continues};
 ghost use Rattle.rows.specs.Memory.{memory, Room, SameBehind};
 ghost use Rattle.solver.specs.Refusals.{move_refusal};
 
 use arithmetic::arithmetic::Arithmetic;
 use refusal::Refusal;
+use rows::memory::Memory;
 use rows::size::Size;
-use rows::steps::{empty_row, shift_row};
-
-// Drops the rows of the oldest unknowns, and moves the others up and to the left.
-fn shift<A: Arithmetic>(
-    size: &Size,
-    coefficients: &mut [A::Coef],
-    symbols: &mut [A::Sym],
-    count: usize,
-)
-    requires room { Room size.now (length coefficients.old) (length symbols.old) }
-    requires some { (1 ≤ count) × (count ≤ size.now.unknowns) }
-    ensures { let old = memory A.operations size.now coefficients.old symbols.old in
-        let new = memory A.operations size.now coefficients.new symbols.new in
-        Shifted A.operations size.now count old new }
-{
-    let staying = size.unknowns() - count;
-    for row in 0..staying {
-        shift_row::<A>(size, coefficients, symbols, row, count);
-    }
-    for row in staying..size.unknowns() {
-        empty_row::<A>(size, coefficients, symbols, row);
-    }
-}
 
 /// The oldest `count` unknowns go, and as many new ones come in at the end, about which nothing is
 /// known. What the rows say about the others together remains. Refuses a count that is not 1 to N
@@ -63,6 +40,11 @@ pub fn move_on<A: Arithmetic>(
     if size.exceeds(coefficients.len(), symbols.len()) {
         return Err(Refusal::ShortMemory);
     }
-    shift::<A>(size, coefficients, symbols, count);
+    let mut memory = Memory {
+        size: *size,
+        coefficients,
+        symbols,
+    };
+    memory.shift_rows::<A>(count);
     Ok(())
 }

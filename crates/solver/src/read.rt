@@ -12,8 +12,8 @@ use arithmetic::arithmetic::Arithmetic;
 use arithmetic::coefficients::{one, zero};
 use arithmetic::sum::Sum;
 use refusal::Refusal;
+use rows::reading::{coefficient_at, symbols_of};
 use rows::size::Size;
-use rows::steps::{coefficient_at, symbols_of};
 
 // A column besides this one where the row is not zero.
 fn other_column<A: Arithmetic>(

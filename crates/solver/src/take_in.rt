@@ -2,10 +2,10 @@
 ghost use Rattle.std.specs.Prelude.{◌≡◌, ℕ, ◌+◌, ◌*◌, ◌<◌, ◌≤◌, length, IfOk, OnErr};
 ghost use Rattle.refusal.specs.Order.{refused_with};
 ghost use Rattle.systems.specs.System.{rows};
-ghost use Rattle.systems.specs.Kept.{Kept, Empty};
+ghost use Rattle.systems.specs.Kept.{Kept, KeptAmong, Empty};
 ghost use Rattle.systems.specs.Form.{SameRow};
-ghost use Rattle.elimination.specs.Leading.{KeptAmong};
-ghost use Rattle.rows.specs.Memory.{memory, Room, SameBehind};
+ghost use Rattle.rows.specs.Memory.{memory as memory_of, Room, SameBehind};
+ghost use Rattle.rows.specs.Lent.{system_of, SameLoan};
 ghost use Rattle.solver.specs.Refusals.{batch_refusal};
 ghost use Rattle.solver.specs.BatchOutcome.{BatchSays, SolveSays};
 ghost use Rattle.solver.specs.Copying.{CopiedIn};
@@ -16,78 +16,68 @@ use crate::settle::settle;
 use arithmetic::arithmetic::Arithmetic;
 use refusal::Refusal;
 use rows::equations::Equations;
+use rows::memory::Memory;
 use rows::size::Size;
-use rows::steps::{copy_row, empty_row};
 
 // Makes all spare rows say nothing.
-fn empty_spare<A: Arithmetic>(size: &Size, coefficients: &mut [A::Coef], symbols: &mut [A::Sym])
-    requires room { Room size.now (length coefficients.old) (length symbols.old) }
-    ensures empty { let new = memory A.operations size.now coefficients.new symbols.new in
-        (r : ℕ) → size.now.unknowns ≤ r → r < rows size.now → Empty A.operations size.now new r }
-    ensures front { let old = memory A.operations size.now coefficients.old symbols.old in
-        let new = memory A.operations size.now coefficients.new symbols.new in
-        (r : ℕ) → r < size.now.unknowns → SameRow size.now new old r }
-    ensures behind { let old = memory A.operations size.now coefficients.old symbols.old in
-        let new = memory A.operations size.now coefficients.new symbols.new in
-        (r : ℕ) → rows size.now ≤ r → SameRow size.now new old r }
+fn empty_spare<A: Arithmetic>(memory: &mut Memory<A::Coef, A::Sym>)
+    ensures same { SameLoan memory.old memory.new }
+    ensures empty { let z = memory.old.size in
+        let new = system_of A.operations memory.new in
+        (r : ℕ) → z.unknowns ≤ r → r < rows z → Empty A.operations z new r }
+    ensures front { let old = system_of A.operations memory.old in
+        let new = system_of A.operations memory.new in
+        (r : ℕ) → r < memory.old.size.unknowns → SameRow memory.old.size new old r }
+    ensures behind { let old = system_of A.operations memory.old in
+        let new = system_of A.operations memory.new in
+        (r : ℕ) → rows memory.old.size ≤ r → SameRow memory.old.size new old r }
 {
-    for row in size.unknowns()..size.rows() {
-        empty_row::<A>(size, coefficients, symbols, row);
+    for row in memory.size.unknowns()..memory.size.rows() {
+        memory.empty_row::<A>(row);
     }
 }
 
 /// Solves a memory whose spare rows hold equations: they are joined to the rows of the unknowns,
 /// or, where they contradict these, given up.
-pub fn solve<A: Arithmetic>(
-    size: &Size,
-    coefficients: &mut [A::Coef],
-    symbols: &mut [A::Sym],
-) -> BatchOutcome
-    requires room { Room size.now (length coefficients.old) (length symbols.old) }
-    requires among { let old = memory A.operations size.now coefficients.old symbols.old in
-        KeptAmong A.operations size.now old }
-    ensures says { let old = memory A.operations size.now coefficients.old symbols.old in
-        let new = memory A.operations size.now coefficients.new symbols.new in
-        SolveSays A.operations size.now old new result }
-    ensures behind { let old = memory A.operations size.now coefficients.old symbols.old in
-        let new = memory A.operations size.now coefficients.new symbols.new in
-        (r : ℕ) → rows size.now ≤ r → SameRow size.now new old r }
+pub fn solve<A: Arithmetic>(memory: &mut Memory<A::Coef, A::Sym>) -> BatchOutcome
+    requires among { let z = memory.old.size in
+        KeptAmong A.operations z (system_of A.operations memory.old) z.unknowns }
+    ensures same { SameLoan memory.old memory.new }
+    ensures says { let old = system_of A.operations memory.old in
+        let new = system_of A.operations memory.new in
+        SolveSays A.operations memory.old.size old new result }
+    ensures behind { let old = system_of A.operations memory.old in
+        let new = system_of A.operations memory.new in
+        (r : ℕ) → rows memory.old.size ≤ r → SameRow memory.old.size new old r }
 {
-    if !settle::<A>(size, coefficients, symbols) {
-        empty_spare::<A>(size, coefficients, symbols);
+    if !settle::<A>(memory) {
+        empty_spare::<A>(memory);
         return BatchOutcome::Contradiction;
     }
-    join::<A>(size, coefficients, symbols);
+    join::<A>(memory);
     BatchOutcome::Taken
 }
 
 // Writes the first `count` of the given equations into the spare rows.
 fn copy_in<A: Arithmetic>(
-    size: &Size,
-    coefficients: &mut [A::Coef],
-    symbols: &mut [A::Sym],
+    memory: &mut Memory<A::Coef, A::Sym>,
     equations: &Equations<A>,
     count: usize,
 )
-    requires room { Room size.now (length coefficients.old) (length symbols.old) }
-    requires few { count ≤ size.now.spare }
-    requires equations { (count * size.now.unknowns ≤ length equations.now.coefficients.now)
-        × (count * size.now.symbols ≤ length equations.now.symbols.now) }
-    ensures { let lent = equations.now in
-        let given = memory A.operations size.now lent.coefficients.now lent.symbols.now in
-        let old = memory A.operations size.now coefficients.old symbols.old in
-        let new = memory A.operations size.now coefficients.new symbols.new in
-        CopiedIn size.now count given old new }
+    requires few { count ≤ memory.old.size.spare }
+    requires equations { let z = memory.old.size in
+        (count * z.unknowns ≤ length equations.now.coefficients.now)
+        × (count * z.symbols ≤ length equations.now.symbols.now) }
+    ensures same { SameLoan memory.old memory.new }
+    ensures copied { let z = memory.old.size in
+        let lent = equations.now in
+        let given = memory_of A.operations z lent.coefficients.now lent.symbols.now in
+        let old = system_of A.operations memory.old in
+        CopiedIn z count given old (system_of A.operations memory.new) }
 {
+    let unknowns = memory.size.unknowns();
     for source in 0..count {
-        copy_row::<A>(
-            size,
-            coefficients,
-            symbols,
-            size.unknowns() + source,
-            equations,
-            source,
-        );
+        memory.copy_row::<A>(unknowns + source, equations, source);
     }
 }
 
@@ -101,7 +91,7 @@ pub fn take_in<A: Arithmetic>(
     equations: &Equations<A>,
     count: usize,
 ) -> Result<BatchOutcome, Refusal>
-    requires kept { let old = memory A.operations size.now coefficients.old symbols.old in
+    requires kept { let old = memory_of A.operations size.now coefficients.old symbols.old in
         Room size.now (length coefficients.old) (length symbols.old)
         → Kept A.operations size.now old }
     ensures refusal { refused_with result ≡ batch_refusal size.now count
@@ -110,7 +100,7 @@ pub fn take_in<A: Arithmetic>(
     ensures unchanged { OnErr result
         ((coefficients.new ≡ coefficients.old) × (symbols.new ≡ symbols.old)) }
     ensures says { let lent = equations.now in
-        let given = memory A.operations size.now lent.coefficients.now lent.symbols.now in
+        let given = memory_of A.operations size.now lent.coefficients.now lent.symbols.now in
         IfOk result (BatchSays A.operations size.now count given
         coefficients.old symbols.old coefficients.new symbols.new) }
     ensures behind { SameBehind size.now coefficients.old coefficients.new symbols.old symbols.new }
@@ -123,6 +113,11 @@ pub fn take_in<A: Arithmetic>(
     {
         return Err(Refusal::ShortMemory);
     }
-    copy_in::<A>(size, coefficients, symbols, equations, count);
-    Ok(solve::<A>(size, coefficients, symbols))
+    let mut memory = Memory {
+        size: *size,
+        coefficients,
+        symbols,
+    };
+    copy_in::<A>(&mut memory, equations, count);
+    Ok(solve::<A>(&mut memory))
 }

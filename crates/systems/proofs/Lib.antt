@@ -1,4 +1,4 @@
-pub mod Scaled
+pub mod Combining
 pub mod Rows
 pub mod Steps
 pub mod Solve
@@ -7,3 +7,4 @@ pub mod Reading
 pub mod Moving
 pub mod Zero
 pub mod Unique
+pub mod Giving

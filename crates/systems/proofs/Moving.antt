@@ -9,7 +9,7 @@ use Rattle.systems.specs.Kept.{Empty, Gives, Kept}
 use Rattle.systems.specs.Form.{StandsFor, KeptFormOf}
 use Rattle.systems.specs.Moving.{Continues, Shifted}
 use Rattle.arithmetic.proofs.Sums.{plus_zero, sum_split, sum_same, sum_zero}
-use Rattle.systems.proofs.Scaled.{scale_by_zero}
+use Rattle.arithmetic.proofs.Scaling.{scale_by_zero}
 use Rattle.systems.proofs.Rows.{same_empty, empty_holds}
 use Rattle.systems.proofs.Solve.{solution, zero_before, solution_solves, solution_stays}
 use Rattle.systems.proofs.Unique.{kept_form}
@@ -56,7 +56,7 @@ module _ {F S : Type 0} (o : Operations F S) (laws : ArithmeticLaws o) where
 
   -- a row that gives an unknown gives it where it is now
   gives_stays : (z : Size) (k : ℕ) (old new : System F S) → Shifted o z k old new → Kept o z old → (u : ℕ) → u + k < z.unknowns
-      → Gives o z old (u + k) → Gives o z new u
+      → Gives o old (rows z) (u + k) → Gives o new (rows z) u
   gives_stays z k old new step kept u l gives = record {
     first = record {
       one = step.coefficients u u l l ∙ gives.first.one;

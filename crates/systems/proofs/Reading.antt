@@ -2,22 +2,28 @@
 use Rattle.std.proofs.Common.{◌≡◌, ℕ, ◌<◌, ◌≢◌, inl, inr, sym, ap, refl, ◌∙◌, arith}
 use Rattle.arithmetic.specs.Operations.{Operations}
 use Rattle.arithmetic.specs.Laws.{ArithmeticLaws}
-use Rattle.systems.specs.System.{Size, System, at_place}
+use Rattle.systems.specs.System.{Size, System, combined, at_place}
 use Rattle.systems.specs.Kept.{Kept}
 use Rattle.systems.specs.Reading.{Shared, Differ}
 use Rattle.arithmetic.proofs.Sums.{sum_only}
-use Rattle.systems.proofs.Scaled.{scale_by_zero, scaled_to_nothing}
+use Rattle.arithmetic.proofs.Scaling.{scale_by_zero, scaled_to_nothing}
 use Rattle.systems.proofs.Solve.{solution, nothing, marked, solution_solves, solution_free, same_gap, same_combined, combined_of_nothing, combined_of_mark, mark_at, no_mark_at}
 
 module _ {F S : Type 0} (o : Operations F S) (laws : ArithmeticLaws o) where
-  -- a row with a one for its unknown, and nothing else, says what the unknown is
+  -- a row with a one for its unknown, and nothing else, adds up to what the unknown holds
+  pub own_alone : (z : Size) (s : System F S) (u : ℕ) → u < z.unknowns → s.coefficient u u ≡ o.products.one
+      → ((v : ℕ) → v < z.unknowns → v ≢ u → s.coefficient u v ≡ o.coefficients.zero) → (x : ℕ → ℕ → S) (p : ℕ)
+      → combined o z.unknowns (s.coefficient u) (at_place x p) ≡ x u p
+  own_alone z s u l one others x p =
+      sum_only o.symbols laws.symbols z.unknowns u (λ v. o.scale (s.coefficient u v) (x v p)) l
+      (λ v k apart. ap (λ c. o.scale c (x v p)) (others v k apart) ∙ scale_by_zero o laws (x v p))
+      ∙ ap (λ c. o.scale c (x u p)) one ∙ laws.scaling.by_one (x u p)
+
+  -- and so says what the unknown is
   pub shared : (z : Size) (s : System F S) (u : ℕ) → u < z.unknowns → s.coefficient u u ≡ o.products.one
       → ((v : ℕ) → v < z.unknowns → v ≢ u → s.coefficient u v ≡ o.coefficients.zero) → Shared o z s u (s.symbol u)
   shared z s u l one others x solves p place =
-      sym (laws.scaling.by_one (x u p)) ∙ ap (λ c. o.scale c (x u p)) (sym one)
-      ∙ sym (sum_only o.symbols laws.symbols z.unknowns u (λ v. o.scale (s.coefficient u v) (x v p)) l
-      (λ v k apart. ap (λ c. o.scale c (x v p)) (others v k apart) ∙ scale_by_zero o laws (x v p)))
-      ∙ solves u (omega arith) p place
+      sym (own_alone z s u l one others x p) ∙ solves u (omega arith) p place
 
   -- two contents: from the mark for unknown v alone, and from nothing
   mark_differs : (z : Size) (s : System F S) → Kept o z s → (u v : ℕ) → 0 < z.symbols

@@ -5,7 +5,7 @@ use Rattle.arithmetic.specs.Laws.{ArithmeticLaws}
 use Rattle.systems.specs.System.{Size, System, combined, at_place, Holds, HoldBelow}
 use Rattle.systems.specs.Kept.{Empty, FirstOne}
 use Rattle.systems.specs.Form.{SameRow}
-use Rattle.systems.proofs.Scaled.{combined_same, combined_zero}
+use Rattle.systems.proofs.Combining.{combined_same, combined_zero}
 
 pub same_row_back : {F S : Type 0} {z : Size} {s t : System F S} {r : ℕ} → SameRow z s t r → SameRow z t s r
 same_row_back e = record { coefficients = λ u l. sym (e.coefficients u l); symbols = λ p l. sym (e.symbols p l) }

@@ -6,7 +6,8 @@ use Rattle.arithmetic.specs.Laws.{ArithmeticLaws}
 use Rattle.systems.specs.System.{Size, System, combined, at_place, Solves}
 use Rattle.systems.specs.Kept.{Empty, Kept}
 use Rattle.arithmetic.proofs.Sums.{cancel, plus_zero, plus_negative, plus_rest, same_negative, sum_zero, sum_only}
-use Rattle.systems.proofs.Scaled.{scale_nothing, scale_by_zero, combined_zero, combined_of_sum}
+use Rattle.arithmetic.proofs.Scaling.{scale_nothing, scale_by_zero}
+use Rattle.systems.proofs.Combining.{combined_zero, combined_of_sum}
 use Rattle.systems.proofs.Rows.{empty_holds}
 
 -- by how much row u is off at place p, where the unknowns hold y there

@@ -7,7 +7,7 @@ use Rattle.systems.specs.System.{Size, System, rows, combined, at_place, Solves}
 use Rattle.systems.specs.Kept.{Empty, Kept}
 use Rattle.systems.specs.Form.{SameRow, StandsFor, KeptFormOf}
 use Rattle.arithmetic.proofs.Sums.{plus_zero, negative_zero, same_remaining_term}
-use Rattle.systems.proofs.Scaled.{scale_by_zero, same_coefficient}
+use Rattle.arithmetic.proofs.Scaling.{scale_by_zero, same_coefficient}
 use Rattle.systems.proofs.Rows.{both_empty}
 use Rattle.systems.proofs.Solve.{solution, nothing, marked, gap, zero_before, solution_solves, solution_free, same_gap, same_combined, combined_of_nothing, combined_of_mark, mark_at, no_mark_at}
 use Rattle.systems.proofs.Content.{some_content}

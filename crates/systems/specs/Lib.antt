@@ -4,3 +4,4 @@ pub mod Form
 pub mod Steps
 pub mod Moving
 pub mod Reading
+pub mod Giving

@@ -1,8 +1,11 @@
 use Rattle.elimination.specs.Progress.{Cleared}
-use Rattle.rows.specs.Memory.{memory}
+use Rattle.rows.specs.Lent.{system_of, SameLoan}
 use Rattle.solver.proofs.join.clear_column.Given as goal
 
 abbrev pub invariant-loop-other : goal.invariant-loop-other
 invariant-loop-other g l =
     let o = g.A.Arithmetic.operations in
-    Cleared o l.size (memory o l.size l.fn.coefficients l.fn.symbols) (memory o l.size l.coefficients l.symbols) l.row l.column l.other
+    record {
+      same : SameLoan l.fn.memory l.memory;
+      cleared : Cleared o l.fn.memory.size (system_of o l.fn.memory) (system_of o l.memory) l.row l.column l.other;
+    }

@@ -23,6 +23,6 @@ pub returns-clause-says : goal.returns-clause-says
 returns-clause-says g c =
     let o = g.A.Arithmetic.operations in
     let z = c.args.size.now in
-    let one = sym c.coefficient_at.ensures ∙ c.same.ensures.0 c.if-not-same.false ∙ c.one.ensures in
-    let all = shared o g.met.A.Arithmetic.laws z (memory o z c.args.coefficients.now c.args.symbols.now) c.args.unknown (omega arith) one c.in_default.ensures in
+    let same = rw (c.coefficient_at.ensures, c.one.ensures) at c.same.ensures in
+    let all = shared o g.met.A.Arithmetic.laws z (memory o z c.args.coefficients.now c.args.symbols.now) c.args.unknown (omega arith) (same.0 c.if-not-same.false) c.in_default.ensures in
     record { whole = c.symbols_of.ensures.whole; shared = λ x solves p h. all x solves p h ∙ sym (c.symbols_of.ensures.each p h) }

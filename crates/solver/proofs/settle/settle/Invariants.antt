@@ -1,8 +1,11 @@
 use Rattle.elimination.specs.Progress.{Settled}
-use Rattle.rows.specs.Memory.{memory}
+use Rattle.rows.specs.Lent.{system_of, SameLoan}
 use Rattle.solver.proofs.settle.settle.Given as goal
 
 abbrev pub invariant-loop-row : goal.invariant-loop-row
 invariant-loop-row g l =
     let o = g.A.Arithmetic.operations in
-    Settled o l.size (memory o l.size l.fn.coefficients l.fn.symbols) (memory o l.size l.coefficients l.symbols) l.row
+    record {
+      same : SameLoan l.fn.memory l.memory;
+      settled : Settled o l.fn.memory.size (system_of o l.fn.memory) (system_of o l.memory) l.row;
+    }

@@ -1,8 +1,11 @@
-use Rattle.rows.specs.Memory.{memory}
-use Rattle.solver.proofs.Loops.{SpareEmptied}
+use Rattle.rows.specs.Lent.{system_of, SameLoan}
+use Rattle.solver.proofs.Copying.{SpareEmptied}
 use Rattle.solver.proofs.take_in.empty_spare.Given as goal
 
 abbrev pub invariant-loop-row : goal.invariant-loop-row
 invariant-loop-row g l =
     let o = g.A.Arithmetic.operations in
-    SpareEmptied o l.size l.row (memory o l.size l.fn.coefficients l.fn.symbols) (memory o l.size l.coefficients l.symbols)
+    record {
+      same : SameLoan l.fn.memory l.memory;
+      emptied : SpareEmptied o l.fn.memory.size l.row (system_of o l.fn.memory) (system_of o l.memory);
+    }

@@ -1,12 +1,20 @@
-use Rattle.std.proofs.Common.{arith}
-use Rattle.solver.proofs.Loops.{zero_given, zero_spare}
+use Rattle.std.proofs.Common.{subst, arith}
+use Rattle.systems.specs.System.{Size}
+use Rattle.systems.specs.Steps.{CoefficientWritten}
+use Rattle.rows.specs.Lent.{system_of}
+use Rattle.rows.proofs.Loans.{same_loan_then}
+use Rattle.solver.proofs.Diagonal.{ones_more}
 use Rattle.solver.proofs.zero.give_zeros.Goals as goal
-use Rattle.solver.proofs.zero.give_zeros.Goals.{then-row-unknowns, else-row-unknowns}
 
-pub loop-row-preserved : goal.loop-row-preserved
-loop-row-preserved g c =
-    elim c.if-row-unknowns.branch [
-      | then-row-unknowns w ↦ rw (w.coefficients-is)
-          (zero_given (omega arith) c.loop-row.invariant c.empty_row.ensures (w.write_one.ensures c.empty_row.new.symbols))
-      | else-row-unknowns w ↦ rw (w.coefficients-is) (zero_spare (omega arith) (omega arith) c.loop-row.invariant c.empty_row.ensures)
-    ]
+pub loop-unknown-preserved : goal.loop-unknown-preserved
+loop-unknown-preserved g c =
+    let o = g.A.Arithmetic.operations in
+    let kept = c.loop-unknown.invariant in
+    let u = c.loop-unknown.unknown in
+    record {
+      same = same_loan_then kept.same c.write_coefficient.ensures.same;
+      ones = ones_more (omega arith) kept.ones
+          (subst (λ (z : Size). CoefficientWritten z (system_of o c.loop-unknown.memory) (system_of o c.write_coefficient.new.self) u u o.products.one)
+          kept.same.size (subst (λ (d : _). CoefficientWritten c.loop-unknown.memory.size (system_of o c.loop-unknown.memory)
+          (system_of o c.write_coefficient.new.self) u u d) c.one.ensures c.write_coefficient.ensures.written));
+    }
