@@ -1,3 +1,4 @@
 mod Places
+mod Rows
 pub mod Streams
 pub mod Runs
