@@ -23,8 +23,8 @@ packets_front : {F S : Type 0} (link : Link F S) (one other : Stream S) (sends :
     → SamePackets link (length sends) one other → AreItsPackets link one sends → AreItsPackets link other sends
 packets_front link one other [] same packets = tt
 packets_front link one other (s ∷ sends) same (before, last) = (
-  packets_front link one other sends (λ t k i l. same t k i (omega arith)) before,
-  λ k i lk li. last k i lk li ∙ same (length sends) k i (omega arith) lk li,
+  packets_front link one other sends (λ t l. same t (omega arith)) before,
+  λ k i lk li. last k i lk li ∙ same (length sends) (omega arith) k i lk li,
 )
 
 -- what begins with a stream's history is one

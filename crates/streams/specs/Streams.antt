@@ -38,6 +38,15 @@ abbrev pub HasPacket : {F S : Type 0} → Link F S → Stream S → ℕ → List
 HasPacket link stream t symbols =
     (k i : ℕ) → k < link.shape.sources → i < link.symbols → symbol_at link symbols k i ≡ stream t k i
 
+-- both streams have the same packet in slot t
+abbrev pub SamePacket : {F S : Type 0} → Link F S → ℕ → Stream S → Stream S → Type 0
+SamePacket link t one other =
+    (k i : ℕ) → k < link.shape.sources → i < link.symbols → one t k i ≡ other t k i
+
+-- and in the slots before n
+abbrev pub SamePackets : {F S : Type 0} → Link F S → ℕ → Stream S → Stream S → Type 0
+SamePackets link n one other = (t : ℕ) → t < n → SamePacket link t one other
+
 -- of the last w packets before slot n, number v from the oldest; zeros below slot 0
 abbrev pub last_packet : {F S : Type 0} → Link F S → ℕ → Stream S → ℕ → ℕ → ℕ → ℕ → S
 last_packet link w stream n v k i = if nat_le w (n + v) then stream (n + v - w) k i else link.operations.symbols.zero
@@ -51,8 +60,3 @@ Shows link w stream n x =
 -- a history at slot n begins with the last M packets
 abbrev pub HasHistory : {F S : Type 0} → Link F S → Stream S → ℕ → List S → Type 0
 HasHistory link stream n history = Shows link link.shape.memory stream n (symbol_at link history)
-
--- both streams have the same packets in the slots before n
-abbrev pub SamePackets : {F S : Type 0} → Link F S → ℕ → Stream S → Stream S → Type 0
-SamePackets link n one other =
-    (t k i : ℕ) → t < n → k < link.shape.sources → i < link.symbols → one t k i ≡ other t k i

@@ -7,7 +7,7 @@ use Rattle.codes.specs.Shape.{packet_size}
 use Rattle.refusal.specs.declared.Refusal.{Refusal}
 use Rattle.refusal.specs.Number.{number_of}
 use Rattle.streams.specs.Streams.{symbol_at, HasPacket, HasHistory}
-use Rattle.streams.proofs.Putting.{put, put_there, put_elsewhere, last_put, sends_front}
+use Rattle.streams.proofs.Putting.{put, put_there, put_before, last_put, sends_front}
 use Rattle.hextext.specs.declared.error.ReadError.{ReadError}
 use Rattle.hextext.specs.declared.error.ReadError.TheVariants.{Refused, NoMemory}
 use Rattle.linktext.specs.Lines.{text_of_refusal}
@@ -46,7 +46,7 @@ module _ {F S : Type 0} (link : Link F S) (b : Bytes S) where
       let prints = rest.1.1 in (
         rest.0,
         (
-          (λ t k i l lk li. sym (put_elsewhere slot own past t k i l) ∙ same t k i (omega arith) lk li),
+          (λ t l k i lk li. sym (put_before slot own past t k i l) ∙ same t (omega arith) k i lk li),
           record {
             blocks = step.block ∷ prints.blocks;
             stop = prints.stop;
