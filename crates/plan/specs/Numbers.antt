@@ -1,5 +1,5 @@
 -- The numbers of a plan: B losses to a short run, m sub-symbols, α times as many losses to a long run, L symbols. Assumes nothing.
-use Rattle.std.specs.Prelude.{ℕ, ◌+◌, ◌*◌, cond, Option, ◌==◌}
+use Rattle.std.specs.Prelude.{◌≡◌, ℕ, ◌+◌, ◌*◌, cond, Option, ◌==◌}
 use Rattle.refusal.specs.Order.{refused, accepted}
 use Rattle.codes.specs.Shape.{out_of}
 use Rattle.plan.specs.declared.card.ArithmeticName.{ArithmeticName}
@@ -24,6 +24,10 @@ plan_refusal b m α l =
     (refused (out_of 1 8 m) 1
     (refused (out_of 1 8 α) 1
     (refused (out_of 1 32 l) 1 accepted)))
+
+-- its numbers are within their limits
+abbrev pub IsPlan : PlanNumbers → Type 0
+IsPlan plan = plan_refusal plan.burst plan.width plan.stretch plan.symbols ≡ accepted
 
 -- T: within so many slots a packet of a short run is repaired
 abbrev pub short_deadline_of : ℕ → ℕ → ℕ

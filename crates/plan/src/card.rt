@@ -1,7 +1,7 @@
 //! Plan cards: the numbers that truck and studio agree on, and what follows from them.
 ghost use Rattle.std.specs.Prelude.{◌≡◌, ◌≤◌, IfOk};
 ghost use Rattle.refusal.specs.Order.{refused_with};
-ghost use Rattle.plan.specs.Numbers.{plan_refusal, short_deadline_of, deadline_of};
+ghost use Rattle.plan.specs.Numbers.{plan_refusal, IsPlan, short_deadline_of, deadline_of};
 ghost use Rattle.plan.specs.Codes.{CodeOf, shape_of, plan_shape};
 
 use crate::code::PlanCode;
@@ -78,6 +78,7 @@ impl Plan {
           symbols = symbols;
           arithmetic = arithmetic;
         }) }
+        ensures limits { IfOk result (λ p. IsPlan p) }
     {
         Ok(Plan {
             burst: Burst::new(burst)?,
