@@ -1,5 +1,5 @@
 -- The parities of a spread. Assumes nothing.
-use Rattle.std.proofs.Common.{◌≡◌, ℕ, zero, suc, ◌+◌, ◌-◌, ◌*◌, ◌/◌, ◌%◌, ◌<◌, ◌≤◌, ◌≢◌, inl, inr, sym, ap, ap₂, ◌∙◌, add-mul, one-mul, mul-one, mul-le-mul_left, mul-le-mul_right, mod-eq_of_lt, arith}
+use Rattle.std.proofs.Common.{◌≡◌, ℕ, zero, suc, ◌+◌, ◌-◌, ◌*◌, ◌/◌, ◌%◌, ◌<◌, ◌≤◌, ◌≢◌, inl, inr, sym, ap, ap₂, ◌∙◌, add-mul, one-mul, mul-one, mul_comm, mul-le-mul_left, mul-le-mul_right, mod-eq_of_lt, arith}
 use Rattle.std.specs.Prelude.{◌==◌}
 use Rattle.std.proofs.lemmas.Bool.{cases_lt, cond-true, cond-false, eq-eqb, ne_eqb}
 use Rattle.std.proofs.lemmas.Nat.{div-mul-add, mod-mul-add}
@@ -7,15 +7,16 @@ use Rattle.arithmetic.specs.Operations.{Sums}
 use Rattle.arithmetic.specs.Laws.{SumLaws, ArithmeticLaws}
 use Rattle.arithmetic.specs.Totals.{sum_below}
 use Rattle.arithmetic.proofs.Sums.{sum_same, sum_zero, sum_only, sum_split}
+use Rattle.codes.specs.Shape.{capped}
 use Rattle.codes.specs.Link.{Link}
 use Rattle.codes.specs.Parity.{sum_of_age}
 use Rattle.codes.specs.Coefficients.{spread, spread_shape}
 use Rattle.codes.specs.Bounded.{spread_bounded}
 use Rattle.streams.specs.Streams.{Stream, past}
 use Rattle.arithmetic.proofs.Scaling.{scale_by_zero}
-use Rattle.parities.specs.Parities.{every}
+use Rattle.parities.specs.Parities.{parity_of, every}
 use Rattle.parities.specs.Laws.{Bounded, SpreadLaw}
-use Rattle.parities.proofs.Reaching.{packet_ago, to_slot}
+use Rattle.parities.proofs.Reaching.{age_of_zeros, before_all, packet_ago, to_slot}
 
 -- what lies between two multiples of g is no multiple
 between : (q g r : ℕ) → 0 < r → r < g → (q * g + r) % g ≢ 0
@@ -63,12 +64,9 @@ parted inner g = record inner {
   coefficients = spread inner.operations.coefficients inner.coefficients g;
 }
 
-module _ {F S : Type 0} (inner : Link F S) (laws : ArithmeticLaws inner.operations) (bounded : Bounded inner) (g : ℕ) where
+module _ {F S : Type 0} (inner : Link F S) (laws : ArithmeticLaws inner.operations) (g : ℕ) where
   abbrev whole : Link F S
   whole = parted inner g
-
-  all_bounded : Bounded whole
-  all_bounded = spread_bounded inner.operations.coefficients inner.shape inner.coefficients g bounded
 
   -- an age between adds nothing
   age_between : (ago : ℕ → ℕ → ℕ → S) (j i a : ℕ) → a % g ≢ 0 → sum_of_age whole ago j i a ≡ inner.operations.symbols.zero
@@ -101,11 +99,43 @@ module _ {F S : Type 0} (inner : Link F S) (laws : ArithmeticLaws inner.operatio
       back_on : (t b : ℕ) → b ≤ t → t - b + b ≡ t
       back_on t b lb = omega arith
 
-  pub spread_law : SpreadLaw whole inner g
+  -- nor does it matter how far back that is: what lies before slot 0 adds nothing to either
+  any_multiple : (stream : Stream S) (t r j i b : ℕ) → r < g
+      → sum_of_age whole (past whole stream (t * g + r)) j i (b * g) ≡ sum_of_age inner (past inner (every g r stream) t) j i b
+  any_multiple stream t r j i b lr = elim (cases_lt t b) [
+    | inl early ↦
+        let least : (t + 1) * g ≤ b * g = mul-le-mul_right g (omega arith) in
+        let split = add-mul t 1 g in
+        age_of_zeros whole laws (past whole stream (t * g + r)) j i (b * g)
+        (λ k lk. before_all whole laws stream (t * g + r) (b * g) k i (omega (arith, one-mul g)))
+        ∙ sym (age_of_zeros inner laws (past inner (every g r stream) t) j i b
+        (λ k lk. before_all inner laws (every g r stream) t b k i early))
+    | inr late ↦ age_of_multiple stream t r j i b lr late
+  ]
+
+  -- a spread whose memory is not capped has, in every slot, the parities that the code has of the slots with the same remainder
+  pub spread_parities : g * inner.shape.memory ≤ 4294967295
+      → (stream : Stream S) (t r j i : ℕ) → r < g
+      → parity_of whole stream (t * g + r) j i ≡ parity_of inner (every g r stream) t j i
+  spread_parities fits stream t r j i lr =
+      let s = inner.operations.symbols in
+      let f = sum_of_age whole (past whole stream (t * g + r)) j i in
+      let memory : capped (g * inner.shape.memory) ≡ inner.shape.memory * g + 0 = omega (arith, mul_comm g inner.shape.memory) in
+      ap (λ m. sum_below s (m + 1) f) memory
+      ∙ every_term s laws.symbols g 0 inner.shape.memory f (omega arith) (age_between (past whole stream (t * g + r)) j i)
+      ∙ sum_same s laws.symbols (inner.shape.memory + 1) _ _ (λ b lb. any_multiple stream t r j i b lr)
+
+module _ {F S : Type 0} (inner : Link F S) (laws : ArithmeticLaws inner.operations) (bounded : Bounded inner) (g : ℕ) where
+  all_bounded : Bounded (parted inner g)
+  all_bounded = spread_bounded inner.operations.coefficients inner.shape inner.coefficients g bounded
+
+  pub spread_law : SpreadLaw (parted inner g) inner g
   spread_law stream t r j i lr slot =
       let s = inner.operations.symbols in
+      let whole = parted inner g in
       let early : t ≤ t * g + r = let more : t * 1 ≤ t * g = mul-le-mul_left t (omega arith) in omega (arith, mul-one t) in
       to_slot whole laws all_bounded stream (t * g + r) j i (omega arith)
-      ∙ every_term s laws.symbols g r t (sum_of_age whole (past whole stream (t * g + r)) j i) lr (age_between (past whole stream (t * g + r)) j i)
-      ∙ sum_same s laws.symbols (t + 1) _ _ (λ b lb. age_of_multiple stream t r j i b lr (omega arith))
+      ∙ every_term s laws.symbols g r t (sum_of_age whole (past whole stream (t * g + r)) j i) lr
+      (age_between inner laws g (past whole stream (t * g + r)) j i)
+      ∙ sum_same s laws.symbols (t + 1) _ _ (λ b lb. age_of_multiple inner laws g stream t r j i b lr (omega arith))
       ∙ sym (to_slot inner laws bounded (every g r stream) t j i (omega arith))
