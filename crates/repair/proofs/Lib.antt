@@ -1,0 +1,15 @@
+pub mod Telling
+pub mod Repairing
+pub mod Finding
+pub mod Allowing
+pub mod Unspread
+pub mod Remainders
+pub mod Arrivals
+pub mod Heard
+pub mod Spreads
+pub mod Limits
+pub mod Links
+pub mod Plans
+pub mod Unseen
+pub mod Tight
+pub mod Deciding
