@@ -7,3 +7,4 @@ pub mod Bytes
 pub mod Frames
 pub mod Refusals
 pub mod Sends
+pub mod Repairs

@@ -20,7 +20,7 @@ use Rattle.examples.specs.Streams.{StreamExamples, link, counting, block, word_l
 use Rattle.examples.proofs.Places.{Each, each, sends}
 
 -- a packet of two symbols and its parity are sent, if these three are the stream's
-slot : (stream : Stream ByteSymbol) (t a b p : ℕ) → (symbol a).value ≡ (stream t 0 0).value → (symbol b).value ≡ (stream t 1 0).value
+pub slot : (stream : Stream ByteSymbol) (t a b p : ℕ) → (symbol a).value ≡ (stream t 0 0).value → (symbol b).value ≡ (stream t 1 0).value
     → (symbol p).value ≡ (parity link (past link stream t) 0 0).value → Sends link stream t (block a b p)
 slot stream t a b p first second last =
     sends value_of_symbol same_symbol link stream t (block a b p) refl ((first, tt), ((second, tt), tt)) ((last, tt), tt)
@@ -29,11 +29,11 @@ slot_0 : Sends link counting 0 (block 1 2 0)
 unfolding product
 slot_0 = slot counting 0 1 2 0 refl refl refl
 
-slot_1 : Sends link counting 1 (block 3 4 2)
+pub slot_1 : Sends link counting 1 (block 3 4 2)
 unfolding product
 slot_1 = slot counting 1 3 4 2 refl refl refl
 
-slot_2 : Sends link counting 2 (block 5 6 5)
+pub slot_2 : Sends link counting 2 (block 5 6 5)
 unfolding product
 slot_2 = slot counting 2 5 6 5 refl refl refl
 
@@ -45,7 +45,7 @@ slot_4 : Sends link counting 4 (block 9 10 12)
 unfolding product
 slot_4 = slot counting 4 9 10 12 refl refl refl
 
-slot_5 : Sends link counting 5 (block 11 12 12)
+pub slot_5 : Sends link counting 5 (block 11 12 12)
 unfolding product
 slot_5 = slot counting 5 11 12 12 refl refl refl
 

@@ -7,6 +7,7 @@ use Rattle.examples.specs.Bytes.{ByteExamples}
 use Rattle.examples.specs.Frames.{FrameExamples}
 use Rattle.examples.specs.Refusals.{RefusalExamples}
 use Rattle.examples.specs.Sends.{RunExamples}
+use Rattle.examples.specs.Repairs.{RepairExamples}
 
 pub record Examples : Type 0 where
   pub streams : StreamExamples
@@ -17,3 +18,4 @@ pub record Examples : Type 0 where
   pub frames : FrameExamples
   pub refusals : RefusalExamples
   pub sends : RunExamples
+  pub repairs : RepairExamples

@@ -7,4 +7,5 @@ pub mod Bytes
 pub mod Frames
 pub mod Refusals
 pub mod Sends
+pub mod Repairs
 pub mod Examples

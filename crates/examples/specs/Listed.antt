@@ -11,3 +11,7 @@ symbols numbers = map symbol numbers
 -- packets of two sub-symbols of l symbols each, one packet behind the other, and zeros behind the last
 abbrev pub packets : ℕ → List ℕ → Stream ByteSymbol
 packets l numbers t k i = symbol (slice_index numbers ((t * 2 + k) * l + i))
+
+-- packets of one sub-symbol of one symbol, and zeros behind the last
+abbrev pub singles : List ℕ → Stream ByteSymbol
+singles numbers t k i = symbol (slice_index numbers t)

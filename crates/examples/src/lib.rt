@@ -3,8 +3,8 @@
 
 ghost use Rattle.examples.specs.Examples.{Examples};
 
-/// Promises the worked examples: of streams, coefficient tables, overlays, spreads, symbols as bytes, frames, refusals, and a
-/// run of sends. It does nothing.
+/// Promises the worked examples: of streams, coefficient tables, overlays, spreads, symbols as bytes, frames, refusals, a run
+/// of sends, and losses that plans allow, with deadlines that are tight. It does nothing.
 pub fn worked_examples()
     ensures { Examples }
 {}

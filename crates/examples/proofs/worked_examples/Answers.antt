@@ -6,6 +6,7 @@ use Rattle.examples.proofs.Bytes.{bytes}
 use Rattle.examples.proofs.Frames.{frames}
 use Rattle.examples.proofs.Refusals.{refusals}
 use Rattle.examples.proofs.Sends.{run}
+use Rattle.examples.proofs.Repairs.{repairs}
 use Rattle.examples.proofs.worked_examples.Goals as goal
 
 pub returns : goal.returns
@@ -18,4 +19,5 @@ returns c = record {
   frames = frames;
   refusals = refusals;
   sends = run;
+  repairs = repairs;
 }
