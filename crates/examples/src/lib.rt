@@ -4,7 +4,7 @@
 ghost use Rattle.examples.specs.Examples.{Examples};
 
 /// Promises the worked examples: of streams, coefficient tables, overlays, spreads, symbols as bytes, frames, refusals, a run
-/// of sends, and losses that plans allow, with deadlines that are tight. It does nothing.
+/// of sends, losses that plans allow or not, and packets that are known in time or not yet. It does nothing.
 pub fn worked_examples()
     ensures { Examples }
 {}
