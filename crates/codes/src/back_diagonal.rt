@@ -1,5 +1,5 @@
 //! The back diagonal.
-ghost use Rattle.std.specs.Prelude.{◌≡◌, IfOk};
+ghost use Rattle.std.specs.Prelude.{◌≡◌, ◌≤◌, IfOk};
 ghost use Rattle.refusal.specs.Order.{refused, accepted, refused_with};
 ghost use Rattle.codes.specs.Shape.{out_of};
 ghost use Rattle.codes.specs.Coefficients.{back_shape, back_coefficients};
@@ -11,11 +11,13 @@ use crate::step::Step;
 use arithmetic::field::Field;
 use refusal::Refusal;
 
+// A plain number, with its limits beside it, as in `MainDiagonal`.
 /// Sub-symbol k goes into the parity k + 1 steps later.
 #[derive(Clone, Copy)]
 pub struct BackDiagonal {
-    width: Sources,
+    width: u32,
     step: Step,
+    ghost ok: { (1 ≤ width) × (width ≤ 8) },
 }
 
 impl BackDiagonal {
@@ -32,7 +34,10 @@ impl BackDiagonal {
         ensures width { result.width ≡ width }
         ensures step { result.step ≡ step }
     {
-        BackDiagonal { width, step }
+        BackDiagonal {
+            width: width.value(),
+            step,
+        }
     }
 }
 
@@ -44,7 +49,7 @@ impl<F: Field> Code<F> for BackDiagonal {
     ghost bounded = { λ code. back_bounded F.Sum.sum F.Field.product code.width code.step.value };
 
     fn sources(&self) -> u32 {
-        self.width.value()
+        self.width
     }
 
     fn parities(&self) -> u32 {
@@ -52,15 +57,12 @@ impl<F: Field> Code<F> for BackDiagonal {
     }
 
     fn memory(&self) -> u32 {
-        self.step.slots().saturating_mul(self.width.value())
+        self.step.slots().saturating_mul(self.width)
     }
 
     fn coefficient(&self, parity: u32, age: u32, sub: u32) -> F {
         let step = u64::from(self.step.slots());
-        if parity == 0
-            && sub < self.width.value()
-            && u64::from(age) == step * (u64::from(sub) + 1)
-        {
+        if parity == 0 && sub < self.width && u64::from(age) == step * (u64::from(sub) + 1) {
             F::one()
         } else {
             F::zero()

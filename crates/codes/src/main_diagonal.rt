@@ -1,5 +1,5 @@
 //! The main diagonal.
-ghost use Rattle.std.specs.Prelude.{◌≡◌, IfOk};
+ghost use Rattle.std.specs.Prelude.{◌≡◌, ◌≤◌, IfOk};
 ghost use Rattle.refusal.specs.Order.{refused, accepted, refused_with};
 ghost use Rattle.codes.specs.Shape.{out_of};
 ghost use Rattle.codes.specs.Coefficients.{main_shape, main_coefficients};
@@ -10,10 +10,14 @@ use crate::limits::Sources;
 use arithmetic::field::Field;
 use refusal::Refusal;
 
+// A plain number, with its limits beside it: a struct that holds a type which clauses see as a
+// number, as `Sources` is, cannot be passed by value and used again, and whoever is handed one
+// cannot know the limits.
 /// Sub-symbol k of a packet of m goes into the parity m - k slots later.
 #[derive(Clone, Copy)]
 pub struct MainDiagonal {
-    width: Sources,
+    width: u32,
+    ghost ok: { (1 ≤ width) × (width ≤ 8) },
 }
 
 impl MainDiagonal {
@@ -29,7 +33,9 @@ impl MainDiagonal {
     pub fn of(width: Sources) -> MainDiagonal
         ensures { result.width ≡ width }
     {
-        MainDiagonal { width }
+        MainDiagonal {
+            width: width.value(),
+        }
     }
 }
 
@@ -41,7 +47,7 @@ impl<F: Field> Code<F> for MainDiagonal {
     ghost bounded = { λ code. main_bounded F.Sum.sum F.Field.product code.width };
 
     fn sources(&self) -> u32 {
-        self.width.value()
+        self.width
     }
 
     fn parities(&self) -> u32 {
@@ -49,11 +55,11 @@ impl<F: Field> Code<F> for MainDiagonal {
     }
 
     fn memory(&self) -> u32 {
-        self.width.value()
+        self.width
     }
 
     fn coefficient(&self, parity: u32, age: u32, sub: u32) -> F {
-        let width = self.width.value();
+        let width = self.width;
         if parity == 0 && sub < width && age == width - sub {
             F::one()
         } else {

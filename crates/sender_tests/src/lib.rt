@@ -7,6 +7,8 @@ mod making;
 #[cfg(test)]
 mod numbers;
 #[cfg(test)]
+mod parts;
+#[cfg(test)]
 mod sending;
 #[cfg(test)]
 mod zeros;

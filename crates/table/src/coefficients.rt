@@ -1,5 +1,5 @@
 //! Tables of coefficients, and their making.
-ghost use Rattle.std.specs.Prelude.{◌≡◌, ◌+◌, ◌*◌, IfOk, vec_len};
+ghost use Rattle.std.specs.Prelude.{◌≡◌, ◌≤◌, ◌+◌, ◌*◌, IfOk, vec_len};
 ghost use Rattle.refusal.specs.Order.{refused_with};
 ghost use Rattle.table.specs.Table.{table_shape, table_refusal};
 ghost use Rattle.table.specs.WrittenOut.{written_out};
@@ -12,6 +12,7 @@ use refusal::Refusal;
 /// How many slots back a table may reach, M.
 pub type Memory = Ranged<0, 63>;
 
+// The limits are said beside the numbers too, since whoever is handed a table cannot look into them.
 /// A code whose coefficients were handed in, byte by byte. It owns its bytes.
 #[derive(Drop)]
 pub struct CoefficientTable {
@@ -19,6 +20,9 @@ pub struct CoefficientTable {
     pub(crate) parities: Parities,
     pub(crate) memory: Memory,
     pub(crate) bytes: Vec<u8>,
+    ghost narrow: { (1 ≤ sources) × (sources ≤ 8) },
+    ghost few: { (1 ≤ parities) × (parities ≤ 4) },
+    ghost near: { memory ≤ 63 },
     ghost whole: { vec_len bytes ≡ parities * (memory + 1) * sources },
 }
 
