@@ -141,9 +141,14 @@ impl<'a, A: Arithmetic> Frame<'a, A> {
             out.new ≡ written_over frame out.old }
     {
         // Counted: tried with `chunks_exact_mut`, and the invariant of the loop cannot then name
-        // the bytes that are written.
-        for i in 0..self.word_count() {
-            put_word(out, i, self.word(i));
+        // the bytes that are written. The data words have a loop of their own, in which nothing
+        // has to be asked of a word.
+        put_word(out, 0, self.word(0));
+        put_word(out, 1, self.word(1));
+        let count = self.data_count();
+        for j in 0..count {
+            put_word(out, 2 + j, self.data_word(j));
         }
+        put_word(out, 2 + count, self.word(2 + count));
     }
 }

@@ -1,6 +1,6 @@
 //! Digits, and the bytes that they spell.
 ghost use Rattle.std.specs.Prelude.{◌≡◌, ◌<◌, true, [], ◌∷◌};
-ghost use Rattle.hextext.specs.Digits.{byte_text, digit, is_hex_digit, all_hex_digits};
+ghost use Rattle.hextext.specs.Digits.{byte_text, digit, is_hex_digit, all_digits, all_hex_digits};
 
 // 0 to 9 and a to f.
 fn is_digit(c: u8) -> bool
@@ -9,11 +9,26 @@ fn is_digit(c: u8) -> bool
     matches!(c, b'0'..=b'9' | b'a'..=b'f')
 }
 
-// Two digits to a byte, and digits only.
+// Digits only. All are looked at, whatever the first ones are: such a loop takes many at once.
+fn only_digits(text: &[u8]) -> bool
+    ensures { result ≡ all_digits text.now }
+{
+    text.iter().fold(true, |all, c| all & is_digit(*c))
+}
+
+// Two digits to a byte, and digits only. Looked at in parts, so that a long text that is none is soon told.
 pub(crate) fn is_hex(text: &[u8]) -> bool
     ensures { result ≡ all_hex_digits text.now }
 {
-    text.len() % 2 == 0 && text.iter().all(|c| is_digit(*c))
+    if text.len() % 2 != 0 {
+        return false;
+    }
+    for part in text.chunks(64) {
+        if !only_digits(part) {
+            return false;
+        }
+    }
+    true
 }
 
 // A plain byte, and the fact that it is a digit beside it: a type for digits would be made anew of each, and read no plainer.
@@ -22,7 +37,11 @@ fn digit_value(c: u8) -> u8
     ensures small { result < 16 }
     ensures value { digit result ≡ c }
 {
-    char::from(c).to_digit(16).unwrap() as u8
+    // Not by the library's `to_digit`, which asks up to six limits of a character and took longer.
+    match c {
+        b'0'..=b'9' => c - b'0',
+        _ => c - b'a' + 10,
+    }
 }
 
 // The byte that two digits spell.
